@@ -1,0 +1,10 @@
+pub mod Bytes
+pub mod Causes
+pub mod Head
+pub mod Trees
+pub mod Headers
+pub mod Faults
+pub mod Computed
+pub mod Judged
+pub mod Spans
+pub mod Laws
