@@ -1,0 +1,5 @@
+pub mod Listed
+pub mod Told
+pub mod Words
+pub mod Pages
+pub mod Samples
