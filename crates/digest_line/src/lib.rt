@@ -1,0 +1,2 @@
+//! Digests as lines of text.
+pub mod line;
