@@ -69,42 +69,10 @@ pub fn absorb_block(state: &mut State, block: &[u8])
 pub fn squeeze(s: State) -> [u8; 32]
     ensures { λ r. ⌜ r ≡ squeezed (lanes s) ⌝ }
 {
-    let a = s.y0.x0.to_le_bytes();
-    let b = s.y0.x1.to_le_bytes();
-    let c = s.y0.x2.to_le_bytes();
-    let d = s.y0.x3.to_le_bytes();
-    [
-        a[0],
-        a[1],
-        a[2],
-        a[3],
-        a[4],
-        a[5],
-        a[6],
-        a[7],
-        b[0],
-        b[1],
-        b[2],
-        b[3],
-        b[4],
-        b[5],
-        b[6],
-        b[7],
-        c[0],
-        c[1],
-        c[2],
-        c[3],
-        c[4],
-        c[5],
-        c[6],
-        c[7],
-        d[0],
-        d[1],
-        d[2],
-        d[3],
-        d[4],
-        d[5],
-        d[6],
-        d[7],
-    ]
+    let mut bytes = [0; 32];
+    bytes[0..8].copy_from_slice(&s.y0.x0.to_le_bytes());
+    bytes[8..16].copy_from_slice(&s.y0.x1.to_le_bytes());
+    bytes[16..24].copy_from_slice(&s.y0.x2.to_le_bytes());
+    bytes[24..32].copy_from_slice(&s.y0.x3.to_le_bytes());
+    bytes
 }
