@@ -1,0 +1,3 @@
+pub mod Forming
+pub mod Lying
+pub mod Telling

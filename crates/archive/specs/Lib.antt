@@ -1,0 +1,4 @@
+pub mod Numbers
+pub mod Accepted
+pub mod Outcome
+pub mod Steps

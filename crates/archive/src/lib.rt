@@ -1,0 +1,10 @@
+//! Calls on signed files. So far: `read`, which tells a signer's form, or exactly why the file is refused.
+
+mod answers;
+mod numbering;
+mod reading;
+mod refusal;
+
+pub use answers::Reading;
+pub use reading::read;
+pub use refusal::Refusal;

@@ -1,0 +1,4 @@
+pub mod Behind
+pub mod Signing
+pub mod Filing
+pub mod Keeping

@@ -1,0 +1,5 @@
+pub mod Unbroken
+pub mod Signing
+pub mod Filing
+pub mod Keeping
+pub mod Single

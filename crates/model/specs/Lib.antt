@@ -1,0 +1,4 @@
+pub mod Parts
+pub mod Files
+pub mod Shapes
+pub mod Laws

@@ -1,0 +1,7 @@
+pub mod Kinds
+pub mod Offsets
+pub mod Limits
+pub mod Attributes
+pub mod Forms
+pub mod Standing
+pub mod Signers
