@@ -2,3 +2,4 @@ pub mod Numbers
 pub mod Accepted
 pub mod Outcome
 pub mod Steps
+pub mod Laws
