@@ -8,6 +8,7 @@ use native.Mathlib.Omega.{arith}
 use Rattle.std.specs.declared.option.Option.{Option}
 use Rattle.std.specs.declared.option.Option.the-variants.{Some, None}
 use Rattle.std.specs.declared.result.Result.{Result}
+use Rattle.der.specs.Spans.{part}
 use Rattle.der.specs.Trees.{Tree}
 use Rattle.cms.specs.declared.located.Attribute.{Attribute as Located}
 use Rattle.cms.specs.Records.{attributeOf}
@@ -20,6 +21,10 @@ use Rattle.rules.proofs.Reading.{Turn, others, rows-join}
 -- the bytes and the end are those that the reader began with
 pub same-reading : (bs bs′ : List ℕ) (at end end′ : ℕ) (r : Result Located ℕ) → bs ≡ bs′ → end ≡ end′ → r ≡ attributeOf bs at end → r ≡ attributeOf bs′ at end′
 same-reading bs bs′ at end end′ r p q e = e ∙ ap (λ (x : List ℕ). attributeOf x at end) p ∙ ap (attributeOf bs′ at) q
+
+-- the name that is tested is that of the attribute
+pub same-test : (test : List ℕ → Bool) (b b′ : Bool) (contents bs bs′ name : List ℕ) (from to : ℕ) → b ≡ test contents → contents ≡ part bs from to → bs ≡ bs′ → part bs′ from to ≡ name → b ≡ b′ → test name ≡ b′
+same-test test b b′ contents bs bs′ name from to p q r n s = ap test (sym (q ∙ ap (λ (x : List ℕ). part x from to) r ∙ n)) ∙ sym p ∙ s
 
 module _ (test : Attribute → Bool) (levels : ℕ) (file : List ℕ) (at end : ℕ) (rest : List Attribute) (x : Located) (t : Turn levels file at end rest x) where
   pub with-found : test (t .first) ≡ true → Some at ≡ firstWith test at rest

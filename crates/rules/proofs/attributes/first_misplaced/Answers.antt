@@ -1,19 +1,13 @@
 use Prim.Native.Nat.{ℕ, _<_}
 use mathlib.Core.Path.{_≡_, refl, sym, _∙_, ap, subst}
-use mathlib.Core.Bool.{Bool}
 use mathlib.Core.List.{List}
 use native.Mathlib.Omega.{arith}
-use Rattle.der.specs.Spans.{part}
 use Rattle.rules.specs.Attributes.{isAmong, misplaced, firstWith}
 use Rattle.rules.specs.Kinds.{signedKinds}
 use Rattle.rules.specs.Standing.{Row}
 use Rattle.rules.proofs.Reading.{no-break, turn}
-use Rattle.rules.proofs.Turning.{same-reading, with-found, with-missed, with-none}
+use Rattle.rules.proofs.Turning.{same-reading, same-test, with-found, with-missed, with-none}
 use Rattle.rules.proofs.attributes.first_misplaced.Needs as need
-
--- the name that is tested is that of the attribute
-same-test : (b b′ : Bool) (contents bs bs′ name : List ℕ) (from to : ℕ) → b ≡ isAmong signedKinds contents → contents ≡ part bs from to → bs ≡ bs′ → part bs′ from to ≡ name → b ≡ b′ → isAmong signedKinds name ≡ b′
-same-test b b′ contents bs bs′ name from to p q r n s = ap (isAmong signedKinds) (sym (q ∙ ap (λ (x : List ℕ). part x from to) r ∙ n)) ∙ sym p ∙ s
 
 pub returns-in-rest : need.returns-in-rest
 returns-in-rest c = λ levels ms r.
@@ -31,7 +25,7 @@ returns-then-is-signed-only c = λ levels ms r.
     let t = turn levels (c .args .unsigned .bytes .now) (c .loop-reader .reader .at) (c .args .unsigned .end) l (left .0) (c .in-Ok .attribute) (left .1)
     (same-reading (c .loop-reader .reader .bytes .now) (c .args .unsigned .bytes .now) _ (c .loop-reader .reader .end) (c .args .unsigned .end) _ (inv .0) (inv .1) (c .in-Ok .ensures tt .value)) in
     with-found misplaced levels (c .args .unsigned .bytes .now) (c .loop-reader .reader .at) (c .args .unsigned .end) (left .0) (c .in-Ok .attribute) t
-    (same-test (c .is-signed-only .result) _ (c .contents .result .now) (c .read-attribute .last .reader .bytes .now) (c .args .unsigned .bytes .now) (t .first .kind) (c .in-Ok .attribute .kind .body) (c .in-Ok .attribute .kind .end)
+    (same-test (isAmong signedKinds) (c .is-signed-only .result) _ (c .contents .result .now) (c .read-attribute .last .reader .bytes .now) (c .args .unsigned .bytes .now) (t .first .kind) (c .in-Ok .attribute .kind .body) (c .in-Ok .attribute .kind .end)
     (c .is-signed-only .ensures) (c .contents .ensures) (c .read-attribute .ensures .bytes ∙ inv .0) (t .there .kind) (c .if-is-signed-only .taken))
     ∙ sym (left .2)
 
@@ -46,7 +40,7 @@ loop-reader-again c =
           let t = turn levels (c .args .unsigned .bytes .now) (c .loop-reader .reader .at) (c .args .unsigned .end) l (left .0) (c .in-Ok .attribute) (left .1)
           (same-reading (c .loop-reader .reader .bytes .now) (c .args .unsigned .bytes .now) _ (c .loop-reader .reader .end) (c .args .unsigned .end) _ (inv .0) (inv .1) (c .in-Ok .ensures tt .value)) in
           let m = with-missed misplaced levels (c .args .unsigned .bytes .now) (c .loop-reader .reader .at) (c .args .unsigned .end) (left .0) (c .in-Ok .attribute) t
-          (same-test (c .is-signed-only .result) _ (c .contents .result .now) (c .read-attribute .last .reader .bytes .now) (c .args .unsigned .bytes .now) (t .first .kind) (c .in-Ok .attribute .kind .body) (c .in-Ok .attribute .kind .end)
+          (same-test (isAmong signedKinds) (c .is-signed-only .result) _ (c .contents .result .now) (c .read-attribute .last .reader .bytes .now) (c .args .unsigned .bytes .now) (t .first .kind) (c .in-Ok .attribute .kind .body) (c .in-Ok .attribute .kind .end)
           (c .is-signed-only .ensures) (c .contents .ensures) (c .read-attribute .ensures .bytes ∙ inv .0) (t .there .kind) (c .if-is-signed-only .left)) in
           let moved = sym (c .in-Ok .ensures tt .moved) in (
             t .tail,
