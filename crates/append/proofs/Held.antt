@@ -3,13 +3,13 @@ use Rattle.std.proofs.Common.{◌≡◌, ℕ, Bool, true, false, List, [], ◌�
 use Rattle.std.proofs.lemmas.List.{append_assoc, append-nil}
 use Rattle.der.specs.Trees.{Tree, node, Forest, more, OneByteTag, framed, encode, encodes}
 use Rattle.model.specs.Parts.{row_of, maybe}
-use Rattle.model.specs.Files.{File, fileTree, fileBytes}
+use Rattle.model.specs.Files.{File, file_tree, file_bytes}
 use Rattle.grow.specs.Frames.{Frame, plug}
 use Rattle.grow.specs.declared.full.Full.{Full}
 use Rattle.grow.specs.Changes.{Encloses, Changed, fitting}
 use Rattle.append.specs.Appended.{given}
 use Rattle.append.specs.Listed.{frame, ListAt}
-use Rattle.append.proofs.Inside.{Inside, step-within}
+use Rattle.append.proofs.Inside.{Inside, step_within}
 
 -- a list lies at `path`, and with `new` behind its elements the file is `changed new`
 pub record Held {M : Type 0} (tree : M → Tree) (file path : List ℕ) (there : Bool) (tag : ℕ) (changed : List M → File) : Type 0 where
@@ -18,26 +18,26 @@ pub record Held {M : Type 0} (tree : M → Tree) (file path : List ℕ) (there :
   pub after : List ℕ
   pub old : List ℕ
   pub list : ListAt there file path fs before tag after old
-  pub again : (new : List M) → plug fs (before ++ (framed tag (old ++ encodes (row_of tree new)) ++ after)) ≡ fileBytes (changed new)
+  pub again : (new : List M) → plug fs (before ++ (framed tag (old ++ encodes (row_of tree new)) ++ after)) ≡ file_bytes (changed new)
 
-encodes-row : {M : Type 0} (tree : M → Tree) (ms ns : List M) → encodes (row_of tree (ms ++ ns)) ≡ encodes (row_of tree ms) ++ encodes (row_of tree ns)
-encodes-row tree [] ns = refl
-encodes-row tree (m ∷ ms) ns =
-    ap (λ (x : List ℕ). encode (tree m) ++ x) (encodes-row tree ms ns) ∙ sym (append_assoc (encode (tree m)) (encodes (row_of tree ms)) (encodes (row_of tree ns)))
+encodes_row : {M : Type 0} (tree : M → Tree) (ms ns : List M) → encodes (row_of tree (ms ++ ns)) ≡ encodes (row_of tree ms) ++ encodes (row_of tree ns)
+encodes_row tree [] ns = refl
+encodes_row tree (m ∷ ms) ns =
+    ap (λ (x : List ℕ). encode (tree m) ++ x) (encodes_row tree ms ns) ∙ sym (append_assoc (encode (tree m)) (encodes (row_of tree ms)) (encodes (row_of tree ns)))
 
-not-both : {b : Bool} → b ≡ true → b ≡ false → ⊥
-not-both p q = let z : ◌≡◌ {A = ℕ} 0 1 = cc in omega arith
+not_both : {b : Bool} → b ≡ true → b ≡ false → ⊥
+not_both p q = let z : ◌≡◌ {A = ℕ} 0 1 = cc in omega arith
 
 module _ {M : Type 0} (tree : M → Tree) {file path : List ℕ} {fs : List Frame} {at : ℕ} {before : List ℕ} {after : List ℕ} {whole : Forest → Tree} (tag : ℕ) (ts : Forest)
     (low : OneByteTag tag) (changed : List M → File) where
   pub held : (o : Option (List M)) → Inside file path fs at before (maybe (λ ms. node tag (row_of tree ms)) o ts) after whole →
-      ((new : List M) → fileTree (changed new) ≡ whole (more (node tag (row_of tree (given o ++ new))) ts)) → Held tree file (at ∷ path) (is_some o) tag changed
+      ((new : List M) → file_tree (changed new) ≡ whole (more (node tag (row_of tree (given o ++ new))) ts)) → Held tree file (at ∷ path) (is_some o) tag changed
   held None i e = record {
     fs = fs;
     before = before;
     after = encodes ts ++ after;
     old = [];
-    list = record { field = λ t. absurd (not-both t refl); place = λ _. record { encloses = i.encloses; cut = i.here }; empty = λ _. refl };
+    list = record { field = λ t. absurd (not_both t refl); place = λ _. record { encloses = i.encloses; cut = i.here }; empty = λ _. refl };
     again = λ new.
         ap (λ (x : List ℕ). plug fs (before ++ x)) (sym (append_assoc (framed tag (encodes (row_of tree new))) (encodes ts) after))
         ∙ i.again (more (node tag (row_of tree new)) ts) ∙ ap encode (sym (e new));
@@ -48,12 +48,12 @@ module _ {M : Type 0} (tree : M → Tree) {file path : List ℕ} {fs : List Fram
     after = encodes ts ++ after;
     old = encodes (row_of tree ms);
     list = record {
-      field = λ _. subst (λ (x : List ℕ). Encloses file (at ∷ path) (frame before tag (encodes ts ++ after) ∷ fs) x) (append-nil (encodes (row_of tree ms))) (step-within i low).encloses;
-      place = λ t. absurd (not-both refl t);
-      empty = λ t. absurd (not-both refl t);
+      field = λ _. subst (λ (x : List ℕ). Encloses file (at ∷ path) (frame before tag (encodes ts ++ after) ∷ fs) x) (append-nil (encodes (row_of tree ms))) (step_within i low).encloses;
+      place = λ t. absurd (not_both refl t);
+      empty = λ t. absurd (not_both refl t);
     };
     again = λ new.
-        ap (λ (x : List ℕ). plug fs (before ++ (framed tag x ++ (encodes ts ++ after)))) (sym (encodes-row tree ms new))
+        ap (λ (x : List ℕ). plug fs (before ++ (framed tag x ++ (encodes ts ++ after)))) (sym (encodes_row tree ms new))
         ∙ ap (λ (x : List ℕ). plug fs (before ++ x)) (sym (append_assoc (framed tag (encodes (row_of tree (ms ++ new)))) (encodes ts) after))
         ∙ i.again (more (node tag (row_of tree (ms ++ new))) ts) ∙ ap encode (sym (e new));
   }
@@ -66,10 +66,10 @@ held_at {M} {tree} {file} {path} {path'} {there} {there'} {tag} {changed} p t h 
 
 -- what is promised of the list holds of the file
 module _ {M : Type 0} {tree : M → Tree} {file path : List ℕ} {there : Bool} {tag : ℕ} {changed : List M → File} (h : Held tree file path there tag changed) where
-  pub held-changed : (was is : List ℕ) (r : Result ℕ Full) (run : List ℕ) (new : List M) → run ≡ encodes (row_of tree new) →
+  pub held_changed : (was is : List ℕ) (r : Result ℕ Full) (run : List ℕ) (new : List M) → run ≡ encodes (row_of tree new) →
       ((fs : List Frame) (before after old : List ℕ) → ListAt there file path fs before tag after old → Changed was is r (plug fs (before ++ (framed tag (old ++ run) ++ after)))) →
-      Changed was is r (fileBytes (changed new))
-  held-changed was is r run new e c =
+      Changed was is r (file_bytes (changed new))
+  held_changed was is r run new e c =
       subst (λ (x : List ℕ). Changed was is r x)
       (ap (λ (x : List ℕ). plug h.fs (h.before ++ (framed tag (h.old ++ x) ++ h.after))) e ∙ h.again new)
       (c h.fs h.before h.after h.old h.list)
@@ -77,7 +77,7 @@ module _ {M : Type 0} {tree : M → Tree} {file path : List ℕ} {there : Bool} 
   pub held_fits : (room size : ℕ) (r : Result ℕ Full) (new : List M) → length (encodes (row_of tree new)) ≡ size →
       ((fs : List Frame) (before : List ℕ) (tag : ℕ) (after old new : List ℕ) → ListAt there file path fs before tag after old → length new ≡ size →
       r ≡ fitting room (length (plug fs (before ++ (framed tag (old ++ new) ++ after))))) →
-      r ≡ fitting room (length (fileBytes (changed new)))
+      r ≡ fitting room (length (file_bytes (changed new)))
   held_fits room size r new e c =
       c h.fs h.before tag h.after h.old (encodes (row_of tree new)) h.list e
       ∙ ap (λ (x : List ℕ). fitting room (length x)) (h.again new)

@@ -2,14 +2,14 @@
 use Rattle.std.proofs.Common.{◌≡◌, ℕ, zero, suc, ◌+◌, List, [], ◌∷◌, is_some, Some, None, Option, refl, arith}
 use Rattle.der.specs.Trees.{Tree, Forest, none, more}
 use Rattle.cms.specs.declared.located.Signer.{Signer as Located}
-use Rattle.fields.specs.Placed.{placedFrom, ifFirst, mapped, entriesOf}
-use Rattle.cms.specs.Places.{signerAt}
-use Rattle.fields.specs.Rules.{headSize, bodySize}
-use Rattle.model.specs.Parts.{row_of, maybe, Attribute, Signer, signerTree, unsignedTree}
-use Rattle.rules.specs.Signers.{signerNumber}
+use Rattle.fields.specs.Placed.{placed_from, if_first, mapped, entries_for}
+use Rattle.cms.specs.Places.{signer_at}
+use Rattle.fields.specs.Rules.{head_size, body_size}
+use Rattle.model.specs.Parts.{row_of, maybe, Attribute, Signer, signer_tree, unsigned_tree}
+use Rattle.rules.specs.Signers.{signer_number}
 use Rattle.grow.specs.Frames.{Frame}
-use Rattle.append.specs.Appended.{signerWith, signersWith}
-use Rattle.append.proofs.Inside.{Inside, step-behind}
+use Rattle.append.specs.Appended.{signer_with, signers_with}
+use Rattle.append.proofs.Inside.{Inside, step_behind}
 
 -- signer `n` of `ss` is found where the record `x` says, and with more attributes of it the list is the changed one
 pub record Found (file path : List ℕ) (fs : List Frame) (after : List ℕ) (whole : Forest → Tree) (n : ℕ) (ss : List Signer) (x : Located) : Type 0 where
@@ -18,31 +18,31 @@ pub record Found (file path : List ℕ) (fs : List Frame) (after : List ℕ) (wh
   pub before : List ℕ
   pub rest : Forest
   pub around : Forest → Tree
-  pub inside : Inside file path fs at before (more (signerTree signer) rest) after around
-  pub is : x ≡ signerAt (record { at = at; tree = signerTree signer })
-  pub again : (new : List Attribute) → whole (row_of signerTree (signersWith n new ss)) ≡ around (more (signerTree (signerWith new signer)) rest)
+  pub inside : Inside file path fs at before (more (signer_tree signer) rest) after around
+  pub is : x ≡ signer_at (record { at = at; tree = signer_tree signer })
+  pub again : (new : List Attribute) → whole (row_of signer_tree (signers_with n new ss)) ≡ around (more (signer_tree (signer_with new signer)) rest)
 
-none-some : {x : Located} → None ≡ Some x → ⊥
-none-some e = let z : ◌≡◌ {A = ℕ} 0 1 = cc in omega arith
+none_some : {x : Located} → None ≡ Some x → ⊥
+none_some e = let z : ◌≡◌ {A = ℕ} 0 1 = cc in omega arith
 
 same_some : {x y : Located} → Some x ≡ Some y → y ≡ x
 same_some e = cc
 
-pub find-signer : {file path : List ℕ} {fs : List Frame} {after : List ℕ} (n p : ℕ) (ss : List Signer) (x : Located) {before : List ℕ} {whole : Forest → Tree} →
-    Inside file path fs p before (row_of signerTree ss) after whole → signerNumber n p ss ≡ Some x → Found file path fs after whole n ss x
-find-signer n p [] x i e = absurd (none-some e)
-find-signer zero p (s ∷ ss) x {before} {whole} i e = record {
+pub find_signer_lem : {file path : List ℕ} {fs : List Frame} {after : List ℕ} (n p : ℕ) (ss : List Signer) (x : Located) {before : List ℕ} {whole : Forest → Tree} →
+    Inside file path fs p before (row_of signer_tree ss) after whole → signer_number n p ss ≡ Some x → Found file path fs after whole n ss x
+find_signer_lem n p [] x i e = absurd (none_some e)
+find_signer_lem zero p (s ∷ ss) x {before} {whole} i e = record {
   signer = s;
   at = p;
   before = before;
-  rest = row_of signerTree ss;
+  rest = row_of signer_tree ss;
   around = whole;
   inside = i;
   is = same_some e;
   again = λ new. refl;
 }
-find-signer (suc n) p (s ∷ ss) x i e =
-    let found = find-signer n (p + headSize (signerTree s) + bodySize (signerTree s)) ss x (step-behind i) e in
+find_signer_lem (suc n) p (s ∷ ss) x i e =
+    let found = find_signer_lem n (p + head_size (signer_tree s) + body_size (signer_tree s)) ss x (step_behind i) e in
     record {
       signer = found.signer;
       at = found.at;
@@ -55,6 +55,6 @@ find-signer (suc n) p (s ∷ ss) x i e =
     }
 
 -- the record says that the field of the unsigned attributes is there where it is
-pub unsigned-there : (p : ℕ) (u : Option (List Attribute)) → is_some (mapped entriesOf (ifFirst 0xa1 (placedFrom p (maybe unsignedTree u none)))) ≡ is_some u
-unsigned-there p None = refl
-unsigned-there p (Some ms) = refl
+pub unsigned_there : (p : ℕ) (u : Option (List Attribute)) → is_some (mapped entries_for (if_first 0xa1 (placed_from p (maybe unsigned_tree u none)))) ≡ is_some u
+unsigned_there p None = refl
+unsigned_there p (Some ms) = refl

@@ -9,22 +9,22 @@ use Rattle.model.specs.Files.{File}
 abbrev pub longer : {M : Type 0} → List M → Option (List M) → Option (List M)
 longer new old = Some (given old ++ new)
 
-abbrev pub withCertificates : List Tree → File → File
-withCertificates new f = record {
+abbrev pub with_certificates : List Tree → File → File
+with_certificates new f = record {
   version = f.version;
   digests = f.digests;
-  contentType = f.contentType;
+  content_type_of = f.content_type_of;
   content = f.content;
   certificates = longer new f.certificates;
   revocations = f.revocations;
   signers = f.signers;
 }
 
-abbrev pub withRevocations : List Tree → File → File
-withRevocations new f = record {
+abbrev pub with_revocations : List Tree → File → File
+with_revocations new f = record {
   version = f.version;
   digests = f.digests;
-  contentType = f.contentType;
+  content_type_of = f.content_type_of;
   content = f.content;
   certificates = f.certificates;
   revocations = longer new f.revocations;
@@ -32,8 +32,8 @@ withRevocations new f = record {
 }
 
 -- a signer with more unsigned attributes
-abbrev pub signerWith : List Attribute → Signer → Signer
-signerWith new s = record {
+abbrev pub signer_with : List Attribute → Signer → Signer
+signer_with new s = record {
   identifier = s.identifier;
   digest = s.digest;
   signed = s.signed;
@@ -43,18 +43,18 @@ signerWith new s = record {
 }
 
 -- of signer number n alone; a number that is not there changes nothing
-abbrev pub signersWith : ℕ → List Attribute → List Signer → List Signer
-signersWith n new [] = []
-signersWith zero new (s ∷ ss) = signerWith new s ∷ ss
-signersWith (suc n) new (s ∷ ss) = s ∷ signersWith n new ss
+abbrev pub signers_with : ℕ → List Attribute → List Signer → List Signer
+signers_with n new [] = []
+signers_with zero new (s ∷ ss) = signer_with new s ∷ ss
+signers_with (suc n) new (s ∷ ss) = s ∷ signers_with n new ss
 
-abbrev pub withAttributes : ℕ → List Attribute → File → File
-withAttributes n new f = record {
+abbrev pub with_attributes : ℕ → List Attribute → File → File
+with_attributes n new f = record {
   version = f.version;
   digests = f.digests;
-  contentType = f.contentType;
+  content_type_of = f.content_type_of;
   content = f.content;
   certificates = f.certificates;
   revocations = f.revocations;
-  signers = signersWith n new f.signers;
+  signers = signers_with n new f.signers;
 }

@@ -2,36 +2,36 @@
 use Rattle.std.specs.Prelude.{◌≡◌, ℕ, Bool, true, false, List, [], ◌∷◌, drop, slice_index}
 use Rattle.cms.specs.declared.located.Message.{Message}
 use Rattle.cms.specs.declared.located.Signer.{Signer}
-use Rattle.cms.specs.Places.{messageAt}
-use Rattle.fields.specs.Reads.{behind as stop, entriesStop}
-use Rattle.cms.specs.Identifiers.{signedDataId}
+use Rattle.cms.specs.Places.{message_at}
+use Rattle.fields.specs.Reads.{behind as stop, entries_stop}
+use Rattle.cms.specs.Identifiers.{signed_data_id}
 use Rattle.der.specs.Trees.{leaf}
-use Rattle.model.specs.Files.{File, fileTree, fileBytes}
+use Rattle.model.specs.Files.{File, file_tree, file_bytes}
 use Rattle.rules.specs.Offsets.{inside, behind}
 use Rattle.grow.specs.Frames.{Frame}
 use Rattle.grow.specs.Changes.{Encloses, Spot}
 
 -- the bytes are those of the file, and the record tells where its parts lie
 pub record FileAt (bytes : List ℕ) (m : Message) (f : File) : Type 0 where
-  pub bytes-are : bytes ≡ fileBytes f
-  pub parts : m ≡ messageAt 0 (fileTree f)
+  pub bytes_are : bytes ≡ file_bytes f
+  pub parts : m ≡ message_at 0 (file_tree f)
 
 -- where the field begins that the signed data stands in: behind the identifier, the first element of the file
-abbrev pub outerAt : File → ℕ
-outerAt f = behind (inside 0 (fileTree f)) (leaf 6 signedDataId)
+abbrev pub outer_at : File → ℕ
+outer_at f = behind (inside 0 (file_tree f)) (leaf 6 signed_data_id)
 
 -- the offsets of a list's field, standing or to be made, and of the elements around it, the innermost first:
 -- certificates stand behind the content info
-abbrev pub certificatesPath : Message → File → List ℕ
-certificatesPath m f = m.info.whole.end ∷ m.whole.start ∷ outerAt f ∷ 0 ∷ []
+abbrev pub certificates_path_of : Message → File → List ℕ
+certificates_path_of m f = m.info.whole.end ∷ m.whole.start ∷ outer_at f ∷ 0 ∷ []
 
 -- revocation entries behind the certificates, if their field is there
-abbrev pub revocationsPath : Message → File → List ℕ
-revocationsPath m f = stop entriesStop m.info.whole.end m.certificates ∷ m.whole.start ∷ outerAt f ∷ 0 ∷ []
+abbrev pub revocations_path_of : Message → File → List ℕ
+revocations_path_of m f = stop entries_stop m.info.whole.end m.certificates ∷ m.whole.start ∷ outer_at f ∷ 0 ∷ []
 
 -- unsigned attributes behind the signature of their signer
-abbrev pub attributesPath : Message → Signer → File → List ℕ
-attributesPath m s f = s.signature.end ∷ s.whole.start ∷ m.signers.field.start ∷ m.whole.start ∷ outerAt f ∷ 0 ∷ []
+abbrev pub attributes_path_of : Message → Signer → File → List ℕ
+attributes_path_of m s f = s.signature.end ∷ s.whole.start ∷ m.signers.field.start ∷ m.whole.start ∷ outer_at f ∷ 0 ∷ []
 
 -- a field with the contents left out, between the bytes of its siblings
 abbrev pub frame : List ℕ → ℕ → List ℕ → Frame

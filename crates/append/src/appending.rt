@@ -2,11 +2,11 @@
 ghost use Rattle.std.specs.Prelude.{◌≡◌, ℕ, ◌≤◌, List, length, take, Some as found};
 ghost use Rattle.std.specs.List.{flat_map};
 ghost use Rattle.der.specs.Trees.{Tree, encodes};
-ghost use Rattle.model.specs.Parts.{Attribute, attributeTree, row, row_of};
-ghost use Rattle.model.specs.Files.{File, fileBytes};
-ghost use Rattle.rules.specs.Signers.{signerNumber};
+ghost use Rattle.model.specs.Parts.{Attribute, attribute_tree, row, row_of};
+ghost use Rattle.model.specs.Files.{File, file_bytes};
+ghost use Rattle.rules.specs.Signers.{signer_number};
 ghost use Rattle.grow.specs.Changes.{Changed};
-ghost use Rattle.append.specs.Appended.{withCertificates, withRevocations, withAttributes};
+ghost use Rattle.append.specs.Appended.{with_certificates, with_revocations, with_attributes};
 ghost use Rattle.append.specs.Listed.{FileAt};
 
 use crate::lists::append_list;
@@ -27,7 +27,7 @@ pub fn append_certificates(
     requires file { (f : File) × FileAt (take n buffer.old) message.now f }
     ensures { (f : File) (new : List Tree) → FileAt (take n buffer.old) message.now f
         → flat_map (λ p. p.now) run.now ≡ encodes (row new)
-        → Changed buffer.old buffer.new result (fileBytes (withCertificates new f)) }
+        → Changed buffer.old buffer.new result (file_bytes (with_certificates new f)) }
 {
     let path = certificates_path(message);
     append_list(buffer, n, &path, message.certificates.is_some(), 0xa0, run)
@@ -46,7 +46,7 @@ pub fn append_revocations(
     requires file { (f : File) × FileAt (take n buffer.old) message.now f }
     ensures { (f : File) (new : List Tree) → FileAt (take n buffer.old) message.now f
         → flat_map (λ p. p.now) run.now ≡ encodes (row new)
-        → Changed buffer.old buffer.new result (fileBytes (withRevocations new f)) }
+        → Changed buffer.old buffer.new result (file_bytes (with_revocations new f)) }
 {
     let path = revocations_path(message);
     append_list(buffer, n, &path, message.revocations.is_some(), 0xa1, run)
@@ -64,11 +64,11 @@ pub fn append_attributes(
 ) -> Result<usize, Full>
     requires within { n ≤ length buffer.old }
     requires file { (f : File) × (k : ℕ) × FileAt (take n buffer.old) message.now f
-        × (signerNumber k message.now.signers.field.body f.signers ≡ found signer.now) }
+        × (signer_number k message.now.signers.field.body f.signers ≡ found signer.now) }
     ensures { (f : File) (k : ℕ) (new : List Attribute) → FileAt (take n buffer.old) message.now f
-        → signerNumber k message.now.signers.field.body f.signers ≡ found signer.now
-        → flat_map (λ p. p.now) run.now ≡ encodes (row_of attributeTree new)
-        → Changed buffer.old buffer.new result (fileBytes (withAttributes k new f)) }
+        → signer_number k message.now.signers.field.body f.signers ≡ found signer.now
+        → flat_map (λ p. p.now) run.now ≡ encodes (row_of attribute_tree new)
+        → Changed buffer.old buffer.new result (file_bytes (with_attributes k new f)) }
 {
     let path = attributes_path(message, signer);
     append_list(buffer, n, &path, signer.unsigned.is_some(), 0xa1, run)

@@ -1,11 +1,11 @@
 //! The length of a file with a run appended to a list, answered with nothing written.
 ghost use Rattle.std.specs.Prelude.{◌≡◌, ℕ, ◌≤◌, List, length, take, Some as found};
 ghost use Rattle.der.specs.Trees.{Tree, encodes};
-ghost use Rattle.model.specs.Parts.{Attribute, attributeTree, row, row_of};
-ghost use Rattle.model.specs.Files.{File, fileBytes};
-ghost use Rattle.rules.specs.Signers.{signerNumber};
+ghost use Rattle.model.specs.Parts.{Attribute, attribute_tree, row, row_of};
+ghost use Rattle.model.specs.Files.{File, file_bytes};
+ghost use Rattle.rules.specs.Signers.{signer_number};
 ghost use Rattle.grow.specs.Changes.{fitting};
-ghost use Rattle.append.specs.Appended.{withCertificates, withRevocations, withAttributes};
+ghost use Rattle.append.specs.Appended.{with_certificates, with_revocations, with_attributes};
 ghost use Rattle.append.specs.Listed.{FileAt};
 
 use crate::lists::measure_list;
@@ -24,7 +24,7 @@ pub fn measure_certificates(
     requires file { (f : File) × FileAt (take n buffer.now) message.now f }
     ensures { (f : File) (new : List Tree) → FileAt (take n buffer.now) message.now f
         → length (encodes (row new)) ≡ size
-        → result ≡ fitting (length buffer.now) (length (fileBytes (withCertificates new f))) }
+        → result ≡ fitting (length buffer.now) (length (file_bytes (with_certificates new f))) }
 {
     let path = certificates_path(message);
     measure_list(buffer, n, &path, message.certificates.is_some(), size)
@@ -41,7 +41,7 @@ pub fn measure_revocations(
     requires file { (f : File) × FileAt (take n buffer.now) message.now f }
     ensures { (f : File) (new : List Tree) → FileAt (take n buffer.now) message.now f
         → length (encodes (row new)) ≡ size
-        → result ≡ fitting (length buffer.now) (length (fileBytes (withRevocations new f))) }
+        → result ≡ fitting (length buffer.now) (length (file_bytes (with_revocations new f))) }
 {
     let path = revocations_path(message);
     measure_list(buffer, n, &path, message.revocations.is_some(), size)
@@ -57,11 +57,11 @@ pub fn measure_attributes(
 ) -> Result<usize, Full>
     requires within { n ≤ length buffer.now }
     requires file { (f : File) × (k : ℕ) × FileAt (take n buffer.now) message.now f
-        × (signerNumber k message.now.signers.field.body f.signers ≡ found signer.now) }
+        × (signer_number k message.now.signers.field.body f.signers ≡ found signer.now) }
     ensures { (f : File) (k : ℕ) (new : List Attribute) → FileAt (take n buffer.now) message.now f
-        → signerNumber k message.now.signers.field.body f.signers ≡ found signer.now
-        → length (encodes (row_of attributeTree new)) ≡ size
-        → result ≡ fitting (length buffer.now) (length (fileBytes (withAttributes k new f))) }
+        → signer_number k message.now.signers.field.body f.signers ≡ found signer.now
+        → length (encodes (row_of attribute_tree new)) ≡ size
+        → result ≡ fitting (length buffer.now) (length (file_bytes (with_attributes k new f))) }
 {
     let path = attributes_path(message, signer);
     measure_list(buffer, n, &path, signer.unsigned.is_some(), size)

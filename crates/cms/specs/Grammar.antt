@@ -7,10 +7,10 @@ use Rattle.cms.specs.declared.settings.SignerCount.TheVariants.{AtLeastOne, Exac
 use Rattle.cms.specs.declared.settings.ContentForm.{ContentForm}
 use Rattle.cms.specs.declared.settings.ContentForm.TheVariants.{Any, TimeStampInfo}
 use Rattle.cms.specs.declared.settings.Settings.{Settings}
-use Rattle.cms.specs.Identifiers.{signedDataId, timeStampInfoId}
+use Rattle.cms.specs.Identifiers.{signed_data_id, time_stamp_info_id}
 use Rattle.fields.specs.Reads.{is}
-use Rattle.cms.specs.Records.{certificateTags, revocationTags, octetTags}
-use Rattle.fields.specs.Rules.{parts_of, headSize, bodySize, or_else, Rule, Tags, nothing, free, field, optional, list, some, choose, one}
+use Rattle.cms.specs.Records.{certificate_tags, revocation_tags, octet_tags}
+use Rattle.fields.specs.Rules.{parts_of, head_size, body_size, or_else, Rule, Tags, nothing, free, field, optional, list, some, choose, one}
 
 abbrev pub any : Tags
 any tag = true
@@ -20,77 +20,77 @@ abbrev pub attribute : Rule
 attribute = field (is 6) free (field (is 0x31) (some any free) nothing)
 
 -- unsigned attributes, if there are any, and nothing more
-abbrev pub unsignedAttributes : Rule
-unsignedAttributes = optional (is 0xa1) (some (is 0x30) attribute) nothing
+abbrev pub unsigned_attributes : Rule
+unsigned_attributes = optional (is 0xa1) (some (is 0x30) attribute) nothing
 
 -- the signature, and what follows it
-abbrev pub fromSignature : Rule
-fromSignature = field (is 0x30) free (field (is 4) free unsignedAttributes)
+abbrev pub from_signature : Rule
+from_signature = field (is 0x30) free (field (is 4) free unsigned_attributes)
 
 -- the signed attributes, and what follows them
-abbrev pub fromSigned : Rule
-fromSigned = field (is 0xa0) (list (is 0x30) attribute) fromSignature
+abbrev pub from_signed : Rule
+from_signed = field (is 0xa0) (list (is 0x30) attribute) from_signature
 
 -- behind the version of a signer: its identifier, its digest algorithm, and the rest
-abbrev pub signerFields : ℕ → Rule
-signerFields tag = field (is tag) free (field (is 0x30) (field (is 6) free free) fromSigned)
+abbrev pub signer_fields : ℕ → Rule
+signer_fields tag = field (is tag) free (field (is 0x30) (field (is 6) free free) from_signed)
 
 -- version 1 goes with an identifier tagged 30, version 3 with one tagged 80
-abbrev pub byVersion : List ℕ → Option Rule
-byVersion version = cond (one 1 version) (Some (signerFields 0x30)) (cond (one 3 version) (Some (signerFields 0x80)) None)
+abbrev pub by_version : List ℕ → Option Rule
+by_version version = cond (one 1 version) (Some (signer_fields 0x30)) (cond (one 3 version) (Some (signer_fields 0x80)) None)
 
 abbrev pub signer : Rule
-signer = choose 2 byVersion
+signer = choose 2 by_version
 
-abbrev pub signersBy : SignerCount → Rule
-signersBy AtLeastOne = some (is 0x30) signer
-signersBy ExactlyOne = field (is 0x30) signer nothing
-signersBy Nobody = nothing
+abbrev pub signers_by : SignerCount → Rule
+signers_by AtLeastOne = some (is 0x30) signer
+signers_by ExactlyOne = field (is 0x30) signer nothing
+signers_by Nobody = nothing
 
 abbrev pub signers : SignerCount → Rule
-signers count = field (is 0x31) (signersBy count) nothing
+signers count = field (is 0x31) (signers_by count) nothing
 
 abbrev pub revocations : SignerCount → Rule
-revocations count = optional (is 0xa1) (list revocationTags free) (signers count)
+revocations count = optional (is 0xa1) (list revocation_tags free) (signers count)
 
 abbrev pub certificates : SignerCount → Rule
-certificates count = optional (is 0xa0) (list certificateTags free) (revocations count)
+certificates count = optional (is 0xa0) (list certificate_tags free) (revocations count)
 
 -- content: one octet string, or one made of octet strings
 abbrev pub content : Rule
-content = field octetTags (list (is 4) free) nothing
+content = field octet_tags (list (is 4) free) nothing
 
-abbrev pub byContentType : List ℕ → Option Rule
-byContentType identifier = cond (bytes_eq identifier timeStampInfoId) (Some (field (is 0xa0) (field (is 4) free nothing) nothing)) None
+abbrev pub by_content_type : List ℕ → Option Rule
+by_content_type identifier = cond (bytes_eq identifier time_stamp_info_id) (Some (field (is 0xa0) (field (is 4) free nothing) nothing)) None
 
-abbrev pub contentInfo : ContentForm → Rule
-contentInfo Any = field (is 6) free (optional (is 0xa0) content nothing)
-contentInfo TimeStampInfo = choose 6 byContentType
+abbrev pub content_info : ContentForm → Rule
+content_info Any = field (is 6) free (optional (is 0xa0) content nothing)
+content_info TimeStampInfo = choose 6 by_content_type
 
-abbrev pub dataFields : Settings → Rule
-dataFields settings = field (is 0x31) free (field (is 0x30) (contentInfo settings.content) (certificates settings.signers))
+abbrev pub data_fields : Settings → Rule
+data_fields settings = field (is 0x31) free (field (is 0x30) (content_info settings.content) (certificates settings.signers))
 
-abbrev pub byDataVersion : Settings → List ℕ → Option Rule
-byDataVersion settings version = cond (one 1 version || (one 3 version || (one 4 version || one 5 version))) (Some (dataFields settings)) None
+abbrev pub by_data_version : Settings → List ℕ → Option Rule
+by_data_version settings version = cond (one 1 version || (one 3 version || (one 4 version || one 5 version))) (Some (data_fields settings)) None
 
-abbrev pub signedData : Settings → Rule
-signedData settings = choose 2 (byDataVersion settings)
+abbrev pub signed_data : Settings → Rule
+signed_data settings = choose 2 (by_data_version settings)
 
-abbrev pub messageFields : Settings → Rule
-messageFields settings = field (is 0xa0) (field (is 0x30) (signedData settings) nothing) nothing
+abbrev pub message_fields : Settings → Rule
+message_fields settings = field (is 0xa0) (field (is 0x30) (signed_data settings) nothing) nothing
 
-abbrev pub byIdentifier : Settings → List ℕ → Option Rule
-byIdentifier settings identifier = cond (bytes_eq identifier signedDataId) (Some (messageFields settings)) None
+abbrev pub by_identifier : Settings → List ℕ → Option Rule
+by_identifier settings identifier = cond (bytes_eq identifier signed_data_id) (Some (message_fields settings)) None
 
 abbrev pub message : Settings → Rule
-message settings = choose 6 (byIdentifier settings)
+message settings = choose 6 (by_identifier settings)
 
 -- a message is one element, and then come surplus bytes, which are not looked into
-abbrev pub surplusAt : ℕ → List ℕ → Option ℕ
-surplusAt p [] = None
-surplusAt p (b ∷ bs) = Some p
+abbrev pub surplus_at : ℕ → List ℕ → Option ℕ
+surplus_at p [] = None
+surplus_at p (b ∷ bs) = Some p
 
 -- the first break of the message that stands at `p`, if there is one
-abbrev pub firstBreak : Settings → ℕ → Tree → List ℕ → Option ℕ
-firstBreak settings p t surplus =
-    cond (is 0x30 (tag_of t)) (or_else (message settings (p + headSize t) (parts_of t)) (surplusAt (p + headSize t + bodySize t) surplus)) (Some p)
+abbrev pub first_break : Settings → ℕ → Tree → List ℕ → Option ℕ
+first_break settings p t surplus =
+    cond (is 0x30 (tag_of t)) (or_else (message settings (p + head_size t) (parts_of t)) (surplus_at (p + head_size t + body_size t) surplus)) (Some p)

@@ -2,7 +2,7 @@
 use Rattle.std.specs.Prelude.{ℕ, zero, suc, ◌+◌, cond, List, [], ◌∷◌, length, drop, Some, None, Option}
 use Rattle.der.specs.declared.header.Header.{Header}
 use Rattle.der.specs.declared.span.Span.{Span}
-use Rattle.der.specs.Spans.{spanAt}
+use Rattle.der.specs.Spans.{span_at}
 use Rattle.der.specs.Trees.{Tree, leaf, Forest, none, more, tag_of}
 use Rattle.fields.specs.declared.located.Entries.{Entries}
 use Rattle.cms.specs.declared.located.Attribute.{Attribute}
@@ -12,67 +12,67 @@ use Rattle.cms.specs.declared.located.Content.TheVariants.{Plain, Segmented}
 use Rattle.cms.specs.declared.located.ContentInfo.{ContentInfo}
 use Rattle.cms.specs.declared.located.Message.{Message}
 use Rattle.fields.specs.Reads.{is}
-use Rattle.cms.specs.Records.{orDetached}
-use Rattle.fields.specs.Placed.{Placed, span_of, insideOf, nth, ifFirst, past, mapped, entriesOf}
-use Rattle.fields.specs.Rules.{parts_of, headSize, bodySize}
+use Rattle.cms.specs.Records.{or_detached}
+use Rattle.fields.specs.Placed.{Placed, span_of, inside_of, nth, if_first, past, mapped, entries_for}
+use Rattle.fields.specs.Rules.{parts_of, head_size, body_size}
 
 -- an attribute: its type and its values
-abbrev pub attributeFrom : Span → List Placed → Attribute
-attributeFrom whole parts = record { whole = whole; kind = span_of (nth 0 parts); values = entriesOf (nth 1 parts) }
+abbrev pub attribute_from : Span → List Placed → Attribute
+attribute_from whole parts = record { whole = whole; kind = span_of (nth 0 parts); values = entries_for (nth 1 parts) }
 
 -- the attribute that an element is
-abbrev pub attributeAt : Placed → Attribute
-attributeAt x = attributeFrom (span_of x) (insideOf x)
+abbrev pub attribute_at : Placed → Attribute
+attribute_at x = attribute_from (span_of x) (inside_of x)
 
 -- a signer: six fields, and the unsigned attributes
-abbrev pub signerFrom : Span → List Placed → Signer
-signerFrom whole parts = record {
+abbrev pub signer_from : Span → List Placed → Signer
+signer_from whole parts = record {
   whole = whole;
   version = span_of (nth 0 parts);
   identifier = span_of (nth 1 parts);
   digest = span_of (nth 2 parts);
-  signed = entriesOf (nth 3 parts);
+  signed = entries_for (nth 3 parts);
   algorithm = span_of (nth 4 parts);
   signature = span_of (nth 5 parts);
-  unsigned = mapped entriesOf (ifFirst 0xa1 (drop 6 parts));
+  unsigned = mapped entries_for (if_first 0xa1 (drop 6 parts));
 }
 
 -- the signer that an element is
-abbrev pub signerAt : Placed → Signer
-signerAt x = signerFrom (span_of x) (insideOf x)
+abbrev pub signer_at : Placed → Signer
+signer_at x = signer_from (span_of x) (inside_of x)
 
 -- the content in its field: tagged 04 it is plain, else it has segments
-abbrev pub contentFrom : Span → Placed → Content
-contentFrom field octets = cond (is 4 (tag_of octets.tree)) (Plain field (span_of octets)) (Segmented field (entriesOf octets))
+abbrev pub content_from : Span → Placed → Content
+content_from field octets = cond (is 4 (tag_of octets.tree)) (Plain field (span_of octets)) (Segmented field (entries_for octets))
 
 -- the content that a field holds
-abbrev pub contentAt : Placed → Content
-contentAt field = contentFrom (span_of field) (nth 0 (insideOf field))
+abbrev pub content_at : Placed → Content
+content_at field = content_from (span_of field) (nth 0 (inside_of field))
 
 -- the content info: the content type, and the content in a field that may be there
-abbrev pub infoFrom : Span → List Placed → ContentInfo
-infoFrom whole parts = record { whole = whole; kind = span_of (nth 0 parts); content = orDetached (mapped contentAt (ifFirst 0xa0 (drop 1 parts))) }
+abbrev pub info_from : Span → List Placed → ContentInfo
+info_from whole parts = record { whole = whole; kind = span_of (nth 0 parts); content = or_detached (mapped content_at (if_first 0xa0 (drop 1 parts))) }
 
 -- the content info that an element is
-abbrev pub infoAt : Placed → ContentInfo
-infoAt x = infoFrom (span_of x) (insideOf x)
+abbrev pub info_at : Placed → ContentInfo
+info_at x = info_from (span_of x) (inside_of x)
 
 -- signed data: three fields, certificates and revocation entries that may be there, and the signers
-abbrev pub dataFrom : Span → List Placed → Message
-dataFrom whole parts = record {
+abbrev pub data_from : Span → List Placed → Message
+data_from whole parts = record {
   whole = whole;
   version = span_of (nth 0 parts);
   digests = span_of (nth 1 parts);
-  info = infoAt (nth 2 parts);
-  certificates = mapped entriesOf (ifFirst 0xa0 (drop 3 parts));
-  revocations = mapped entriesOf (ifFirst 0xa1 (past 0xa0 (drop 3 parts)));
-  signers = entriesOf (nth 0 (past 0xa1 (past 0xa0 (drop 3 parts))));
+  info = info_at (nth 2 parts);
+  certificates = mapped entries_for (if_first 0xa0 (drop 3 parts));
+  revocations = mapped entries_for (if_first 0xa1 (past 0xa0 (drop 3 parts)));
+  signers = entries_for (nth 0 (past 0xa1 (past 0xa0 (drop 3 parts))));
 }
 
 -- the signed data that an element is
-abbrev pub dataAt : Placed → Message
-dataAt x = dataFrom (span_of x) (insideOf x)
+abbrev pub data_at : Placed → Message
+data_at x = data_from (span_of x) (inside_of x)
 
 -- the message that begins at `at`: an identifier, and the signed data in a field
-abbrev pub messageAt : ℕ → Tree → Message
-messageAt at t = dataAt (nth 0 (insideOf (nth 1 (insideOf (record { at = at; tree = t })))))
+abbrev pub message_at : ℕ → Tree → Message
+message_at at t = data_at (nth 0 (inside_of (nth 1 (inside_of (record { at = at; tree = t })))))

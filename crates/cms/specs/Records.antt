@@ -13,68 +13,68 @@ use Rattle.cms.specs.declared.settings.SignerCount.TheVariants.{AtLeastOne, Exac
 use Rattle.cms.specs.declared.settings.ContentForm.{ContentForm}
 use Rattle.cms.specs.declared.settings.ContentForm.TheVariants.{Any, TimeStampInfo}
 use Rattle.cms.specs.declared.settings.Settings.{Settings}
-use Rattle.cms.specs.Identifiers.{signedDataId, timeStampInfoId}
-use Rattle.fields.specs.Reads.{◌>>=◌, ◌>>◌, Reading, any_of, allowedOf, expectOf, optionalOf, number_of, named_of, finishOf, list_of, someOf, maybeOf, behind, entriesIn, entriesStop, spanStop}
+use Rattle.cms.specs.Identifiers.{signed_data_id, time_stamp_info_id}
+use Rattle.fields.specs.Reads.{◌>>=◌, ◌>>◌, Reading, any_of, allowed_of, expect_of, optional_of, number_of, named_of, finish_of, list_of, some_of, maybe_of, behind, entries_in, entries_stop, span_stop}
 
 -- the tags of certificates and of revocation entries
-abbrev pub certificateTags : ℕ → Bool
-certificateTags tag = tag == 0x30 || (tag == 0xa0 || (tag == 0xa1 || (tag == 0xa2 || tag == 0xa3)))
+abbrev pub certificate_tags : ℕ → Bool
+certificate_tags tag = tag == 0x30 || (tag == 0xa0 || (tag == 0xa1 || (tag == 0xa2 || tag == 0xa3)))
 
-abbrev pub revocationTags : ℕ → Bool
-revocationTags tag = tag == 0x30 || tag == 0xa1
+abbrev pub revocation_tags : ℕ → Bool
+revocation_tags tag = tag == 0x30 || tag == 0xa1
 
 -- the tags of content: plain, segmented
-abbrev pub octetTags : ℕ → Bool
-octetTags tag = tag == 4 || tag == 0x24
+abbrev pub octet_tags : ℕ → Bool
+octet_tags tag = tag == 4 || tag == 0x24
 
 -- the contents of the attribute `whole`
-abbrev pub attributeIn : List ℕ → Span → Result Attribute ℕ
-attributeIn file whole = do
-  kind ← expectOf 6 file whole.body whole.end
-  field ← expectOf 0x31 file kind.end whole.end
-  values ← entriesIn (someOf any_of) file field
-  finishOf field.end whole.end
+abbrev pub attribute_in : List ℕ → Span → Result Attribute ℕ
+attribute_in file whole = do
+  kind ← expect_of 6 file whole.body whole.end
+  field ← expect_of 0x31 file kind.end whole.end
+  values ← entries_in (some_of any_of) file field
+  finish_of field.end whole.end
   Ok (record { whole = whole; kind = kind; values = values })
 
-abbrev pub attributeOf : List ℕ → ℕ → ℕ → Result Attribute ℕ
-attributeOf file at end = expectOf 0x30 file at end >>= attributeIn file
+abbrev pub attribute_of : List ℕ → ℕ → ℕ → Result Attribute ℕ
+attribute_of file at end = expect_of 0x30 file at end >>= attribute_in file
 
-abbrev pub attributeStop : Attribute → ℕ
-attributeStop a = a.whole.end
+abbrev pub attribute_stop : Attribute → ℕ
+attribute_stop a = a.whole.end
 
 -- an attribute, as one element of a list
-abbrev pub attributeEntry : Reading
-attributeEntry file at end = attributeOf file at end >>= (λ a. Ok a.whole)
+abbrev pub attribute_entry : Reading
+attribute_entry file at end = attribute_of file at end >>= (λ a. Ok a.whole)
 
 -- the tag of the signer identifier that goes with a version, which stands at `place`
-abbrev pub identifierTag : ℕ → ℕ → Result ℕ ℕ
-identifierTag place version = cond (version == 1) (Ok 0x30) (cond (version == 3) (Ok 0x80) (Err place))
+abbrev pub identifier_tag_of : ℕ → ℕ → Result ℕ ℕ
+identifier_tag_of place version = cond (version == 1) (Ok 0x30) (cond (version == 3) (Ok 0x80) (Err place))
 
 -- an algorithm: it begins with an identifier
-abbrev pub algorithmOf : List ℕ → ℕ → ℕ → Result Span ℕ
-algorithmOf file at end = do
-  whole ← expectOf 0x30 file at end
-  expectOf 6 file whole.body whole.end
+abbrev pub algorithm_of : List ℕ → ℕ → ℕ → Result Span ℕ
+algorithm_of file at end = do
+  whole ← expect_of 0x30 file at end
+  expect_of 6 file whole.body whole.end
   Ok whole
 
 abbrev pub signed_of : List ℕ → ℕ → ℕ → Result Entries ℕ
-signed_of file at end = expectOf 0xa0 file at end >>= entriesIn (list_of attributeEntry) file
+signed_of file at end = expect_of 0xa0 file at end >>= entries_in (list_of attribute_entry) file
 
-abbrev pub unsignedOf : List ℕ → ℕ → ℕ → Result (Option Entries) ℕ
-unsignedOf file at end = maybeOf (entriesIn (someOf attributeEntry) file) (optionalOf 0xa1 file at end)
+abbrev pub unsigned_of : List ℕ → ℕ → ℕ → Result (Option Entries) ℕ
+unsigned_of file at end = maybe_of (entries_in (some_of attribute_entry) file) (optional_of 0xa1 file at end)
 
 -- the contents of the signer `whole`
-abbrev pub signerIn : List ℕ → Span → Result Signer ℕ
-signerIn file whole = do
+abbrev pub signer_in : List ℕ → Span → Result Signer ℕ
+signer_in file whole = do
   version ← number_of file whole.body whole.end
-  tag ← identifierTag whole.body version.value
-  identifier ← expectOf tag file version.element.end whole.end
-  digest ← algorithmOf file identifier.end whole.end
+  tag ← identifier_tag_of whole.body version.value
+  identifier ← expect_of tag file version.element.end whole.end
+  digest ← algorithm_of file identifier.end whole.end
   signed ← signed_of file digest.end whole.end
-  algorithm ← expectOf 0x30 file signed.field.end whole.end
-  signature ← expectOf 4 file algorithm.end whole.end
-  unsigned ← unsignedOf file signature.end whole.end
-  finishOf (behind entriesStop signature.end unsigned) whole.end
+  algorithm ← expect_of 0x30 file signed.field.end whole.end
+  signature ← expect_of 4 file algorithm.end whole.end
+  unsigned ← unsigned_of file signature.end whole.end
+  finish_of (behind entries_stop signature.end unsigned) whole.end
   Ok (record {
     whole = whole;
     version = version.element;
@@ -86,93 +86,93 @@ signerIn file whole = do
     unsigned = unsigned;
   })
 
-abbrev pub signerOf : List ℕ → ℕ → ℕ → Result Signer ℕ
-signerOf file at end = expectOf 0x30 file at end >>= signerIn file
+abbrev pub signer_of : List ℕ → ℕ → ℕ → Result Signer ℕ
+signer_of file at end = expect_of 0x30 file at end >>= signer_in file
 
-abbrev pub signerStop : Signer → ℕ
-signerStop s = s.whole.end
+abbrev pub signer_stop : Signer → ℕ
+signer_stop s = s.whole.end
 
 -- a signer, as one element of a list
-abbrev pub signerEntry : Reading
-signerEntry file at end = signerOf file at end >>= (λ s. Ok s.whole)
+abbrev pub signer_entry : Reading
+signer_entry file at end = signer_of file at end >>= (λ s. Ok s.whole)
 
 -- the signers in their field, as many as the setting wants
-abbrev pub signersIn : SignerCount → List ℕ → ℕ → ℕ → Result ℕ ℕ
-signersIn AtLeastOne file at end = someOf signerEntry file at end
-signersIn ExactlyOne file at end = do
-  signer ← signerEntry file at end
-  finishOf signer.end end
+abbrev pub signers_in : SignerCount → List ℕ → ℕ → ℕ → Result ℕ ℕ
+signers_in AtLeastOne file at end = some_of signer_entry file at end
+signers_in ExactlyOne file at end = do
+  signer ← signer_entry file at end
+  finish_of signer.end end
   Ok 1
-signersIn Nobody file at end = do
-  finishOf at end
+signers_in Nobody file at end = do
+  finish_of at end
   Ok 0
 
-abbrev pub certificatesOf : List ℕ → ℕ → ℕ → Result (Option Entries) ℕ
-certificatesOf file at end = maybeOf (entriesIn (list_of (allowedOf certificateTags)) file) (optionalOf 0xa0 file at end)
+abbrev pub certificates_of : List ℕ → ℕ → ℕ → Result (Option Entries) ℕ
+certificates_of file at end = maybe_of (entries_in (list_of (allowed_of certificate_tags)) file) (optional_of 0xa0 file at end)
 
-abbrev pub revocationsOf : List ℕ → ℕ → ℕ → Result (Option Entries) ℕ
-revocationsOf file at end = maybeOf (entriesIn (list_of (allowedOf revocationTags)) file) (optionalOf 0xa1 file at end)
+abbrev pub revocations_of : List ℕ → ℕ → ℕ → Result (Option Entries) ℕ
+revocations_of file at end = maybe_of (entries_in (list_of (allowed_of revocation_tags)) file) (optional_of 0xa1 file at end)
 
 -- plain content, or segments
-abbrev pub octetsIn : List ℕ → Span → Span → Result Content ℕ
-octetsIn file field octets =
+abbrev pub octets_in : List ℕ → Span → Span → Result Content ℕ
+octets_in file field octets =
     cond (octets.tag == 4) (Ok (Plain field octets))
-    (entriesIn (list_of (expectOf 4)) file octets >>= (λ segments. Ok (Segmented field segments)))
+    (entries_in (list_of (expect_of 4)) file octets >>= (λ segments. Ok (Segmented field segments)))
 
 -- the contents of the field around the content
-abbrev pub contentIn : List ℕ → Span → Result Content ℕ
-contentIn file field = do
-  octets ← allowedOf octetTags file field.body field.end
-  content ← octetsIn file field octets
-  finishOf octets.end field.end
+abbrev pub content_in : List ℕ → Span → Result Content ℕ
+content_in file field = do
+  octets ← allowed_of octet_tags file field.body field.end
+  content ← octets_in file field octets
+  finish_of octets.end field.end
   Ok content
 
-abbrev pub orDetached : Option Content → Content
-orDetached None = Detached
-orDetached (Some c) = c
+abbrev pub or_detached : Option Content → Content
+or_detached None = Detached
+or_detached (Some c) = c
 
 -- one octet string in its field, and nothing more
-abbrev pub plainIn : List ℕ → Span → Result Span ℕ
-plainIn file field = do
-  octets ← expectOf 4 file field.body field.end
-  finishOf octets.end field.end
+abbrev pub plain_in : List ℕ → Span → Result Span ℕ
+plain_in file field = do
+  octets ← expect_of 4 file field.body field.end
+  finish_of octets.end field.end
   Ok octets
 
 -- the contents of the content info `whole`
-abbrev pub infoIn : ContentForm → List ℕ → Span → Result ContentInfo ℕ
-infoIn Any file whole = do
-  kind ← expectOf 6 file whole.body whole.end
-  content ← maybeOf (contentIn file) (optionalOf 0xa0 file kind.end whole.end)
-  finishOf (behind spanStop kind.end (optionalOf 0xa0 file kind.end whole.end)) whole.end
-  Ok (record { whole = whole; kind = kind; content = orDetached content })
-infoIn TimeStampInfo file whole = do
-  kind ← named_of timeStampInfoId file whole.body whole.end
-  field ← expectOf 0xa0 file kind.end whole.end
-  octets ← plainIn file field
-  finishOf field.end whole.end
+abbrev pub info_in : ContentForm → List ℕ → Span → Result ContentInfo ℕ
+info_in Any file whole = do
+  kind ← expect_of 6 file whole.body whole.end
+  content ← maybe_of (content_in file) (optional_of 0xa0 file kind.end whole.end)
+  finish_of (behind span_stop kind.end (optional_of 0xa0 file kind.end whole.end)) whole.end
+  Ok (record { whole = whole; kind = kind; content = or_detached content })
+info_in TimeStampInfo file whole = do
+  kind ← named_of time_stamp_info_id file whole.body whole.end
+  field ← expect_of 0xa0 file kind.end whole.end
+  octets ← plain_in file field
+  finish_of field.end whole.end
   Ok (record { whole = whole; kind = kind; content = Plain field octets })
 
-abbrev pub infoOf : ContentForm → List ℕ → ℕ → ℕ → Result ContentInfo ℕ
-infoOf form file at end = expectOf 0x30 file at end >>= infoIn form file
+abbrev pub info_of : ContentForm → List ℕ → ℕ → ℕ → Result ContentInfo ℕ
+info_of form file at end = expect_of 0x30 file at end >>= info_in form file
 
-abbrev pub infoStop : ContentInfo → ℕ
-infoStop info = info.whole.end
+abbrev pub info_stop : ContentInfo → ℕ
+info_stop info = info.whole.end
 
-abbrev pub versionOf : ℕ → ℕ → Result (Unit {0}) ℕ
-versionOf place v = cond (v == 1 || (v == 3 || (v == 4 || v == 5))) (Ok tt) (Err place)
+abbrev pub version_of : ℕ → ℕ → Result (Unit {0}) ℕ
+version_of place v = cond (v == 1 || (v == 3 || (v == 4 || v == 5))) (Ok tt) (Err place)
 
 -- the contents of the signed data `whole`
-abbrev pub dataIn : Settings → List ℕ → Span → Result Message ℕ
-dataIn settings file whole = do
+abbrev pub data_in : Settings → List ℕ → Span → Result Message ℕ
+data_in settings file whole = do
   version ← number_of file whole.body whole.end
-  versionOf whole.body version.value
-  digests ← expectOf 0x31 file version.element.end whole.end
-  info ← infoOf settings.content file digests.end whole.end
-  certificates ← certificatesOf file info.whole.end whole.end
-  revocations ← revocationsOf file (behind entriesStop info.whole.end certificates) whole.end
-  field ← expectOf 0x31 file (behind entriesStop (behind entriesStop info.whole.end certificates) revocations) whole.end
-  signers ← entriesIn (signersIn settings.signers) file field
-  finishOf field.end whole.end
+  version_of whole.body version.value
+  digests ← expect_of 0x31 file version.element.end whole.end
+  info ← info_of settings.content file digests.end whole.end
+  certificates ← certificates_of file info.whole.end whole.end
+  revocations ← revocations_of file (behind entries_stop info.whole.end certificates) whole.end
+  field ← expect_of 0x31 file (behind entries_stop (behind entries_stop info.whole.end certificates) revocations) whole.end
+  signers ← entries_in (signers_in settings.signers) file field
+  finish_of field.end whole.end
   Ok (record {
     whole = whole;
     version = version.element;
@@ -184,26 +184,26 @@ dataIn settings file whole = do
   })
 
 -- the contents of the field around the signed data
-abbrev pub signedDataIn : Settings → List ℕ → Span → Result Message ℕ
-signedDataIn settings file field = do
-  signed ← expectOf 0x30 file field.body field.end
-  message ← dataIn settings file signed
-  finishOf signed.end field.end
+abbrev pub signed_data_in : Settings → List ℕ → Span → Result Message ℕ
+signed_data_in settings file field = do
+  signed ← expect_of 0x30 file field.body field.end
+  message ← data_in settings file signed
+  finish_of signed.end field.end
   Ok message
 
 -- the contents of the message `whole`
-abbrev pub messageIn : Settings → List ℕ → Span → Result Message ℕ
-messageIn settings file whole = do
-  identifier ← named_of signedDataId file whole.body whole.end
-  field ← expectOf 0xa0 file identifier.end whole.end
-  message ← signedDataIn settings file field
-  finishOf field.end whole.end
+abbrev pub message_in : Settings → List ℕ → Span → Result Message ℕ
+message_in settings file whole = do
+  identifier ← named_of signed_data_id file whole.body whole.end
+  field ← expect_of 0xa0 file identifier.end whole.end
+  message ← signed_data_in settings file field
+  finish_of field.end whole.end
   Ok message
 
 -- the message that stands from `at` to `end`, and nothing behind it
-abbrev pub messageOf : Settings → List ℕ → ℕ → ℕ → Result Message ℕ
-messageOf settings file at end = do
-  whole ← expectOf 0x30 file at end
-  message ← messageIn settings file whole
-  finishOf whole.end end
+abbrev pub message_of : Settings → List ℕ → ℕ → ℕ → Result Message ℕ
+message_of settings file at end = do
+  whole ← expect_of 0x30 file at end
+  message ← message_in settings file whole
+  finish_of whole.end end
   Ok message

@@ -1,6 +1,6 @@
 //! Attributes.
-ghost use Rattle.fields.specs.Reads.{Reads, ReadsMaybe, spanStop, entriesStop};
-ghost use Rattle.cms.specs.Records.{attributeOf, attributeStop, attributeEntry, signed_of, unsignedOf};
+ghost use Rattle.fields.specs.Reads.{Reads, ReadsMaybe, span_stop, entries_stop};
+ghost use Rattle.cms.specs.Records.{attribute_of, attribute_stop, attribute_entry, signed_of, unsigned_of};
 
 use crate::located::Attribute;
 use der::{Reader, Span};
@@ -8,7 +8,7 @@ use fields::{Anything, Entries, Entry, count, count_some, enter, expect, finish,
 
 /// An attribute: its type and at least one value.
 pub fn read_attribute(reader: &mut Reader) -> Result<Attribute, usize>
-    ensures { Reads attributeOf attributeStop reader.old reader.new result }
+    ensures { Reads attribute_of attribute_stop reader.old reader.new result }
 {
     let whole = expect(reader, 0x30)?;
     let mut inside = enter(reader, whole);
@@ -26,7 +26,7 @@ pub fn read_attribute(reader: &mut Reader) -> Result<Attribute, usize>
 pub(crate) struct Attributes;
 
 impl Entry for Attributes {
-    ghost outcome = { attributeEntry };
+    ghost outcome = { attribute_entry };
 
     fn read(reader: &mut Reader) -> Result<Span, usize> {
         let attribute = read_attribute(reader)?;
@@ -36,7 +36,7 @@ impl Entry for Attributes {
 
 /// The signed attributes: any number.
 pub(crate) fn read_signed(reader: &mut Reader) -> Result<Entries, usize>
-    ensures { Reads signed_of entriesStop reader.old reader.new result }
+    ensures { Reads signed_of entries_stop reader.old reader.new result }
 {
     let field = expect(reader, 0xa0)?;
     let count = count::<Attributes>(enter(reader, field))?;
@@ -45,7 +45,7 @@ pub(crate) fn read_signed(reader: &mut Reader) -> Result<Entries, usize>
 
 /// The unsigned attributes, if their field is there: at least one.
 pub(crate) fn read_unsigned(reader: &mut Reader) -> Result<Option<Entries>, usize>
-    ensures { ReadsMaybe unsignedOf entriesStop reader.old reader.new result }
+    ensures { ReadsMaybe unsigned_of entries_stop reader.old reader.new result }
 {
     let Some(field) = read_optional(reader, 0xa1) else {
         return Ok(None);

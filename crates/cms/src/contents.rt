@@ -2,7 +2,7 @@
 ghost use Rattle.std.specs.Prelude.{◌≡◌, IfOk};
 ghost use Rattle.fields.specs.Reads.{Reads};
 ghost use Rattle.cms.specs.declared.settings.ContentForm.TheVariants.{Any, TimeStampInfo};
-ghost use Rattle.cms.specs.Records.{contentIn, plainIn, infoIn, infoOf, infoStop};
+ghost use Rattle.cms.specs.Records.{content_in, plain_in, info_in, info_of, info_stop};
 
 use crate::located::{Content, ContentInfo};
 use crate::settings::ContentForm;
@@ -18,7 +18,7 @@ const TIME_STAMP_INFO: [u8; 11] = [
 
 /// The content in its field: one octet string, or one made of octet strings.
 fn read_content(reader: &Reader, field: Span) -> Result<Content, usize>
-    ensures { result ≡ contentIn reader.now.bytes.now field }
+    ensures { result ≡ content_in reader.now.bytes.now field }
 {
     let mut inside = enter(reader, field);
     let octets = read_any(&mut inside)?;
@@ -42,7 +42,7 @@ fn read_content(reader: &Reader, field: Span) -> Result<Content, usize>
 
 /// The content type, and the content if there is any.
 fn read_any_info(reader: &Reader, whole: Span) -> Result<ContentInfo, usize>
-    ensures value { result ≡ infoIn Any reader.now.bytes.now whole }
+    ensures value { result ≡ info_in Any reader.now.bytes.now whole }
     ensures whole { IfOk result (λ info. info.whole ≡ whole) }
 {
     let mut inside = enter(reader, whole);
@@ -61,7 +61,7 @@ fn read_any_info(reader: &Reader, whole: Span) -> Result<ContentInfo, usize>
 
 /// One octet string in its field, and nothing more.
 fn read_plain(reader: &Reader, field: Span) -> Result<Span, usize>
-    ensures { result ≡ plainIn reader.now.bytes.now field }
+    ensures { result ≡ plain_in reader.now.bytes.now field }
 {
     let mut inside = enter(reader, field);
     let octets = expect(&mut inside, 0x04)?;
@@ -71,7 +71,7 @@ fn read_plain(reader: &Reader, field: Span) -> Result<Span, usize>
 
 /// The content of a time-stamp token.
 fn read_stamp_info(reader: &Reader, whole: Span) -> Result<ContentInfo, usize>
-    ensures value { result ≡ infoIn TimeStampInfo reader.now.bytes.now whole }
+    ensures value { result ≡ info_in TimeStampInfo reader.now.bytes.now whole }
     ensures whole { IfOk result (λ info. info.whole ≡ whole) }
 {
     let mut inside = enter(reader, whole);
@@ -88,7 +88,7 @@ fn read_stamp_info(reader: &Reader, whole: Span) -> Result<ContentInfo, usize>
 
 /// The content info, as the setting wants it.
 pub(crate) fn read_info(reader: &mut Reader, form: ContentForm) -> Result<ContentInfo, usize>
-    ensures { Reads (infoOf form) infoStop reader.old reader.new result }
+    ensures { Reads (info_of form) info_stop reader.old reader.new result }
 {
     let whole = expect(reader, 0x30)?;
     let info = match form {

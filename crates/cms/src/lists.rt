@@ -1,7 +1,7 @@
 //! The lists of a message, and what their entries are.
 ghost use Rattle.std.specs.Prelude.{◌≡◌};
-ghost use Rattle.fields.specs.Reads.{Reads, spanStop, any_of, allowedOf, expectOf};
-ghost use Rattle.cms.specs.Records.{certificateTags, revocationTags};
+ghost use Rattle.fields.specs.Reads.{Reads, span_stop, any_of, allowed_of, expect_of};
+ghost use Rattle.cms.specs.Records.{certificate_tags, revocation_tags};
 
 use der::{Reader, Span};
 use fields::{Entry, expect, read_any};
@@ -10,7 +10,7 @@ use fields::{Entry, expect, read_any};
 pub(crate) struct Certificates;
 
 impl Entry for Certificates {
-    ghost outcome = { allowedOf certificateTags };
+    ghost outcome = { allowed_of certificate_tags };
 
     fn read(reader: &mut Reader) -> Result<Span, usize> {
         let at = reader.at;
@@ -26,7 +26,7 @@ impl Entry for Certificates {
 pub(crate) struct Revocations;
 
 impl Entry for Revocations {
-    ghost outcome = { allowedOf revocationTags };
+    ghost outcome = { allowed_of revocation_tags };
 
     fn read(reader: &mut Reader) -> Result<Span, usize> {
         let at = reader.at;

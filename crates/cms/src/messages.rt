@@ -2,10 +2,10 @@
 ghost use Rattle.std.specs.Prelude.{◌≡◌, ℕ, ◌≤◌, List, ◌++◌, length, IfOk};
 ghost use Rattle.der.specs.Spans.{part};
 ghost use Rattle.der.specs.Trees.{Tree, Valid, encode};
-ghost use Rattle.cms.specs.Grammar.{firstBreak};
-ghost use Rattle.cms.specs.Places.{messageAt};
-ghost use Rattle.fields.specs.Reads.{Reads, ReadsMaybe, entriesStop, broke};
-ghost use Rattle.cms.specs.Records.{certificatesOf, revocationsOf, versionOf, dataIn, signedDataIn, messageIn, messageOf};
+ghost use Rattle.cms.specs.Grammar.{first_break};
+ghost use Rattle.cms.specs.Places.{message_at};
+ghost use Rattle.fields.specs.Reads.{Reads, ReadsMaybe, entries_stop, broke};
+ghost use Rattle.cms.specs.Records.{certificates_of, revocations_of, version_of, data_in, signed_data_in, message_in, message_of};
 
 use crate::contents::read_info;
 use crate::lists::{Certificates, Revocations};
@@ -22,7 +22,7 @@ const SIGNED_DATA: [u8; 9] = [0x2a, 0x86, 0x48, 0x86, 0xf7, 0x0d, 0x01, 0x07, 0x
 
 /// The certificates, if their field is there: any number.
 fn read_certificates(reader: &mut Reader) -> Result<Option<Entries>, usize>
-    ensures { ReadsMaybe certificatesOf entriesStop reader.old reader.new result }
+    ensures { ReadsMaybe certificates_of entries_stop reader.old reader.new result }
 {
     let Some(field) = read_optional(reader, 0xa0) else {
         return Ok(None);
@@ -33,7 +33,7 @@ fn read_certificates(reader: &mut Reader) -> Result<Option<Entries>, usize>
 
 /// The revocation entries, if their field is there: any number.
 fn read_revocations(reader: &mut Reader) -> Result<Option<Entries>, usize>
-    ensures { ReadsMaybe revocationsOf entriesStop reader.old reader.new result }
+    ensures { ReadsMaybe revocations_of entries_stop reader.old reader.new result }
 {
     let Some(field) = read_optional(reader, 0xa1) else {
         return Ok(None);
@@ -44,7 +44,7 @@ fn read_revocations(reader: &mut Reader) -> Result<Option<Entries>, usize>
 
 /// A version of signed data, which stands at `place`.
 fn check_version(place: usize, version: u8) -> Result<(), usize>
-    ensures { result ≡ versionOf place version }
+    ensures { result ≡ version_of place version }
 {
     match version {
         1 | 3 | 4 | 5 => Ok(()),
@@ -54,7 +54,7 @@ fn check_version(place: usize, version: u8) -> Result<(), usize>
 
 /// The fields of signed data.
 fn read_data(reader: &Reader, whole: Span, settings: Settings) -> Result<Message, usize>
-    ensures { result ≡ dataIn settings reader.now.bytes.now whole }
+    ensures { result ≡ data_in settings reader.now.bytes.now whole }
 {
     let mut inside = enter(reader, whole);
     let version = read_number(&mut inside)?;
@@ -79,7 +79,7 @@ fn read_data(reader: &Reader, whole: Span, settings: Settings) -> Result<Message
 
 /// The signed data in its field.
 fn read_signed_data(reader: &Reader, field: Span, settings: Settings) -> Result<Message, usize>
-    ensures { result ≡ signedDataIn settings reader.now.bytes.now field }
+    ensures { result ≡ signed_data_in settings reader.now.bytes.now field }
 {
     let mut inside = enter(reader, field);
     let whole = expect(&mut inside, 0x30)?;
@@ -90,7 +90,7 @@ fn read_signed_data(reader: &Reader, field: Span, settings: Settings) -> Result<
 
 /// The fields of a message.
 fn read_fields(reader: &Reader, whole: Span, settings: Settings) -> Result<Message, usize>
-    ensures { result ≡ messageIn settings reader.now.bytes.now whole }
+    ensures { result ≡ message_in settings reader.now.bytes.now whole }
 {
     let mut inside = enter(reader, whole);
     expect_identifier(&mut inside, &SIGNED_DATA)?;
@@ -102,7 +102,7 @@ fn read_fields(reader: &Reader, whole: Span, settings: Settings) -> Result<Messa
 
 /// The message that stands from the reader's offset to its end, or the place of the first break.
 fn read_parts(reader: Reader, settings: Settings) -> Result<Message, usize>
-    ensures { result ≡ messageOf settings reader.entry.bytes.now reader.entry.at reader.entry.end }
+    ensures { result ≡ message_of settings reader.entry.bytes.now reader.entry.at reader.entry.end }
 {
     let mut outside = reader;
     let whole = expect(&mut outside, 0x30)?;
@@ -114,13 +114,13 @@ fn read_parts(reader: Reader, settings: Settings) -> Result<Message, usize>
 /// Where the parts lie of the message that stands from the reader's offset to its end,
 /// or the place of the first field that is missing, wrong or surplus.
 pub fn read_message(reader: Reader, settings: Settings) -> Result<Message, usize>
-    ensures computed { result ≡ messageOf settings reader.entry.bytes.now reader.entry.at reader.entry.end }
+    ensures computed { result ≡ message_of settings reader.entry.bytes.now reader.entry.at reader.entry.end }
     ensures meaning { (t : Tree) (surplus : List ℕ) (levels : ℕ) → Valid t levels → reader.entry.end ≤ length reader.entry.bytes.now
         → encode t ++ surplus ≡ part reader.entry.bytes.now reader.entry.at reader.entry.end
-        → broke result ≡ firstBreak settings reader.entry.at t surplus }
+        → broke result ≡ first_break settings reader.entry.at t surplus }
     ensures places { (t : Tree) (surplus : List ℕ) (levels : ℕ) → Valid t levels → reader.entry.end ≤ length reader.entry.bytes.now
         → encode t ++ surplus ≡ part reader.entry.bytes.now reader.entry.at reader.entry.end
-        → IfOk result (λ m. m ≡ messageAt reader.entry.at t) }
+        → IfOk result (λ m. m ≡ message_at reader.entry.at t) }
 {
     read_parts(reader, settings)
 }

@@ -1,7 +1,7 @@
 //! Signers.
 ghost use Rattle.std.specs.Prelude.{◌≡◌};
-ghost use Rattle.fields.specs.Reads.{Reads, spanStop};
-ghost use Rattle.cms.specs.Records.{identifierTag, algorithmOf, signerOf, signerStop, signerEntry, signersIn};
+ghost use Rattle.fields.specs.Reads.{Reads, span_stop};
+ghost use Rattle.cms.specs.Records.{identifier_tag_of, algorithm_of, signer_of, signer_stop, signer_entry, signers_in};
 
 use crate::attributes::{read_signed, read_unsigned};
 use crate::located::Signer;
@@ -11,7 +11,7 @@ use fields::{Entry, count_some, enter, expect, finish, read_number};
 
 /// The tag of the identifier that goes with a version, which stands at `place`.
 fn identifier_tag(place: usize, version: u8) -> Result<u8, usize>
-    ensures { result ≡ identifierTag place version }
+    ensures { result ≡ identifier_tag_of place version }
 {
     match version {
         1 => Ok(0x30),
@@ -22,7 +22,7 @@ fn identifier_tag(place: usize, version: u8) -> Result<u8, usize>
 
 /// An algorithm, which begins with an identifier.
 fn read_algorithm(reader: &mut Reader) -> Result<Span, usize>
-    ensures { Reads algorithmOf spanStop reader.old reader.new result }
+    ensures { Reads algorithm_of span_stop reader.old reader.new result }
 {
     let whole = expect(reader, 0x30)?;
     let mut inside = enter(reader, whole);
@@ -32,7 +32,7 @@ fn read_algorithm(reader: &mut Reader) -> Result<Span, usize>
 
 /// A signer: its six fields and its unsigned attributes.
 pub fn read_signer(reader: &mut Reader) -> Result<Signer, usize>
-    ensures { Reads signerOf signerStop reader.old reader.new result }
+    ensures { Reads signer_of signer_stop reader.old reader.new result }
 {
     let whole = expect(reader, 0x30)?;
     let mut inside = enter(reader, whole);
@@ -60,7 +60,7 @@ pub fn read_signer(reader: &mut Reader) -> Result<Signer, usize>
 pub(crate) struct Signers;
 
 impl Entry for Signers {
-    ghost outcome = { signerEntry };
+    ghost outcome = { signer_entry };
 
     fn read(reader: &mut Reader) -> Result<Span, usize> {
         let signer = read_signer(reader)?;
@@ -70,7 +70,7 @@ impl Entry for Signers {
 
 /// How many signers the field has, as the setting wants them.
 pub(crate) fn count_signers(inside: Reader, wanted: SignerCount) -> Result<usize, usize>
-    ensures { result ≡ signersIn wanted inside.entry.bytes.now inside.entry.at inside.entry.end }
+    ensures { result ≡ signers_in wanted inside.entry.bytes.now inside.entry.at inside.entry.end }
 {
     let mut reader = inside;
     match wanted {

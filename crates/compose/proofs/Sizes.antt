@@ -1,191 +1,191 @@
 -- How long nested elements are, and that headers made for a size fit.
 use Rattle.std.proofs.Common.{◌≡◌, ℕ, ◌+◌, ◌<◌, ◌≤◌, List, ◌∷◌, ◌++◌, length, Some, None, Option, sym, refl, ap, ◌∙◌, subst, arith, MatchOption}
 use Rattle.std.proofs.lemmas.List.{length-append}
-use Rattle.der.specs.Trees.{lengthBytes, framed}
+use Rattle.der.specs.Trees.{length_bytes, framed}
 use Rattle.compose.specs.declared.frame.Framed.{Framed}
 use Rattle.compose.specs.declared.headers.Inner.{Inner}
 use Rattle.compose.specs.declared.headers.Outer.{Outer}
 use Rattle.compose.specs.declared.headers.Headers.{Headers}
 use Rattle.compose.specs.Framing.{Framing}
-use Rattle.compose.specs.Composed.{indexType, setBytes, carrierBytes, unsignedBytes, signerBytes, signersBytes, dataBytes, fieldBytes, messageBytes, valuesBytes, stampType, stampBytes}
-use Rattle.compose.specs.Heads.{InnerFits, OuterFits, InnerHeads, InnerLong, OuterHeads, OuterLong, HeadsAll, Fitting, TooLong, identifierBytes}
+use Rattle.compose.specs.Composed.{index_type, set_bytes, carrier_bytes, unsigned_bytes, signer_bytes, signers_bytes, data_bytes, field_bytes, message_bytes, values_bytes, stamp_type, stamp_bytes}
+use Rattle.compose.specs.Heads.{InnerFits, OuterFits, InnerHeads, InnerLong, OuterHeads, OuterLong, HeadsAll, Fitting, TooLong, identifier_bytes}
 
 -- an element is longer than its contents
-pub framed-longer : (tag : ℕ) (body : List ℕ) → length body < length (framed tag body)
-framed-longer tag body = omega (arith, length-append (lengthBytes (length body)) body)
+pub framed_longer : (tag : ℕ) (body : List ℕ) → length body < length (framed tag body)
+framed_longer tag body = omega (arith, length-append (length_bytes (length body)) body)
 
 -- and with something before them
-led-longer : (tag : ℕ) (lead body : List ℕ) → length lead + length body < length (framed tag (lead ++ body))
-led-longer tag lead body = omega (arith, framed-longer tag (lead ++ body), length-append lead body)
+led_longer : (tag : ℕ) (lead body : List ℕ) → length lead + length body < length (framed tag (lead ++ body))
+led_longer tag lead body = omega (arith, framed_longer tag (lead ++ body), length-append lead body)
 
-size-index : length indexType ≡ 8
-unfolding indexType
-size-index = refl
+size_index : length index_type ≡ 8
+unfolding index_type
+size_index = refl
 
-size-stamp : length stampType ≡ 8
-unfolding stampType
-size-stamp = refl
+size_stamp : length stamp_type ≡ 8
+unfolding stamp_type
+size_stamp = refl
 
 module _ (s x : List ℕ) where
-  grows-set : length x < length (setBytes x)
-  unfolding setBytes
-  grows-set = framed-longer 0x31 x
+  grows_set : length x < length (set_bytes x)
+  unfolding set_bytes
+  grows_set = framed_longer 0x31 x
 
-  grows-carrier : 8 + length (setBytes x) < length (carrierBytes x)
-  unfolding carrierBytes
-  grows-carrier = omega (arith, led-longer 0x30 indexType (setBytes x), size-index)
+  grows_carrier : 8 + length (set_bytes x) < length (carrier_bytes x)
+  unfolding carrier_bytes
+  grows_carrier = omega (arith, led_longer 0x30 index_type (set_bytes x), size_index)
 
-  grows-unsigned : length (carrierBytes x) < length (unsignedBytes x)
-  unfolding unsignedBytes
-  grows-unsigned = framed-longer 0xa1 (carrierBytes x)
+  grows_unsigned : length (carrier_bytes x) < length (unsigned_bytes x)
+  unfolding unsigned_bytes
+  grows_unsigned = framed_longer 0xa1 (carrier_bytes x)
 
-  grows-signer : length s + length (unsignedBytes x) < length (signerBytes s x)
-  unfolding signerBytes
-  grows-signer = led-longer 0x30 s (unsignedBytes x)
+  grows_signer : length s + length (unsigned_bytes x) < length (signer_bytes s x)
+  unfolding signer_bytes
+  grows_signer = led_longer 0x30 s (unsigned_bytes x)
 
 module _ (i f s x : List ℕ) where
-  grows-signers : length (signerBytes s x) < length (signersBytes s x)
-  unfolding signersBytes
-  grows-signers = framed-longer 0x31 (signerBytes s x)
+  grows_signers : length (signer_bytes s x) < length (signers_bytes s x)
+  unfolding signers_bytes
+  grows_signers = framed_longer 0x31 (signer_bytes s x)
 
-  grows-data : length f + length (signersBytes s x) < length (dataBytes f s x)
-  unfolding dataBytes
-  grows-data = led-longer 0x30 f (signersBytes s x)
+  grows_data : length f + length (signers_bytes s x) < length (data_bytes f s x)
+  unfolding data_bytes
+  grows_data = led_longer 0x30 f (signers_bytes s x)
 
-  grows-field : length (dataBytes f s x) < length (fieldBytes f s x)
-  unfolding fieldBytes
-  grows-field = framed-longer 0xa0 (dataBytes f s x)
+  grows_field : length (data_bytes f s x) < length (field_bytes f s x)
+  unfolding field_bytes
+  grows_field = framed_longer 0xa0 (data_bytes f s x)
 
-  grows-message : length i + length (fieldBytes f s x) < length (messageBytes i f s x)
-  unfolding messageBytes
-  grows-message = led-longer 0x30 i (fieldBytes f s x)
+  grows_message : length i + length (field_bytes f s x) < length (message_bytes i f s x)
+  unfolding message_bytes
+  grows_message = led_longer 0x30 i (field_bytes f s x)
 
-  grows-values : length (messageBytes i f s x) < length (valuesBytes i f s x)
-  unfolding valuesBytes
-  grows-values = framed-longer 0x31 (messageBytes i f s x)
+  grows_values : length (message_bytes i f s x) < length (values_bytes i f s x)
+  unfolding values_bytes
+  grows_values = framed_longer 0x31 (message_bytes i f s x)
 
-  grows-stamp : 8 + length (valuesBytes i f s x) < length (stampBytes i f s x)
-  unfolding stampBytes
-  grows-stamp = omega (arith, led-longer 0x30 stampType (valuesBytes i f s x), size-stamp)
+  grows_stamp : 8 + length (values_bytes i f s x) < length (stamp_bytes i f s x)
+  unfolding stamp_bytes
+  grows_stamp = omega (arith, led_longer 0x30 stamp_type (values_bytes i f s x), size_stamp)
 
 -- one size too large inside makes the signer too long
 module _ (six index : ℕ) where
   pub set_long : 65535 < index → InnerLong six index
-  set_long h s x p q = omega (arith, grows-set s x, grows-carrier s x, grows-unsigned s x, grows-signer s x)
+  set_long h s x p q = omega (arith, grows_set s x, grows_carrier s x, grows_unsigned s x, grows_signer s x)
 
   module _ (set : Framed) (a : Framing set 0x31 index) where
-    set-total : (x : List ℕ) → length x ≡ index → set.total ≡ length (setBytes x)
-    unfolding setBytes
-    set-total x q = a.total x q
+    set_total : (x : List ℕ) → length x ≡ index → set.total ≡ length (set_bytes x)
+    unfolding set_bytes
+    set_total x q = a.total x q
 
-    pub carrier-long : 65535 < 8 + set.total → InnerLong six index
-    carrier-long h s x p q = omega (arith, set-total x q, grows-carrier s x, grows-unsigned s x, grows-signer s x)
+    pub carrier_long : 65535 < 8 + set.total → InnerLong six index
+    carrier_long h s x p q = omega (arith, set_total x q, grows_carrier s x, grows_unsigned s x, grows_signer s x)
 
     module _ (carrier : Framed) (b : Framing carrier 0x30 (8 + set.total)) where
-      carrier-size : (x : List ℕ) → length x ≡ index → length (indexType ++ setBytes x) ≡ 8 + set.total
-      carrier-size x q = omega (arith, length-append indexType (setBytes x), size-index, set-total x q)
+      carrier_size : (x : List ℕ) → length x ≡ index → length (index_type ++ set_bytes x) ≡ 8 + set.total
+      carrier_size x q = omega (arith, length-append index_type (set_bytes x), size_index, set_total x q)
 
-      carrier-total : (x : List ℕ) → length x ≡ index → carrier.total ≡ length (carrierBytes x)
-      unfolding carrierBytes
-      carrier-total x q = b.total (indexType ++ setBytes x) (carrier-size x q)
+      carrier_total : (x : List ℕ) → length x ≡ index → carrier.total ≡ length (carrier_bytes x)
+      unfolding carrier_bytes
+      carrier_total x q = b.total (index_type ++ set_bytes x) (carrier_size x q)
 
-      pub unsigned-long : 65535 < carrier.total → InnerLong six index
-      unsigned-long h s x p q = omega (arith, carrier-total x q, grows-unsigned s x, grows-signer s x)
+      pub unsigned_long : 65535 < carrier.total → InnerLong six index
+      unsigned_long h s x p q = omega (arith, carrier_total x q, grows_unsigned s x, grows_signer s x)
 
       module _ (unsigned : Framed) (d : Framing unsigned 0xa1 carrier.total) where
-        unsigned-total : (x : List ℕ) → length x ≡ index → unsigned.total ≡ length (unsignedBytes x)
-        unfolding unsignedBytes
-        unsigned-total x q = d.total (carrierBytes x) (sym (carrier-total x q))
+        unsigned_total : (x : List ℕ) → length x ≡ index → unsigned.total ≡ length (unsigned_bytes x)
+        unfolding unsigned_bytes
+        unsigned_total x q = d.total (carrier_bytes x) (sym (carrier_total x q))
 
-        pub signer-long : 65535 < six + unsigned.total → InnerLong six index
-        signer-long h s x p q = omega (arith, unsigned-total x q, grows-signer s x)
+        pub signer_long : 65535 < six + unsigned.total → InnerLong six index
+        signer_long h s x p q = omega (arith, unsigned_total x q, grows_signer s x)
 
         module _ (signer : Framed) (e : Framing signer 0x30 (six + unsigned.total)) where
-          signer-size : (s x : List ℕ) → length s ≡ six → length x ≡ index → length (s ++ unsignedBytes x) ≡ six + unsigned.total
-          signer-size s x p q = omega (arith, length-append s (unsignedBytes x), unsigned-total x q)
+          signer_size : (s x : List ℕ) → length s ≡ six → length x ≡ index → length (s ++ unsigned_bytes x) ≡ six + unsigned.total
+          signer_size s x p q = omega (arith, length-append s (unsigned_bytes x), unsigned_total x q)
 
-          signer-total : (s x : List ℕ) → length s ≡ six → length x ≡ index → signer.total ≡ length (signerBytes s x)
-          unfolding signerBytes
-          signer-total s x p q = e.total (s ++ unsignedBytes x) (signer-size s x p q)
+          signer_total : (s x : List ℕ) → length s ≡ six → length x ≡ index → signer.total ≡ length (signer_bytes s x)
+          unfolding signer_bytes
+          signer_total s x p q = e.total (s ++ unsigned_bytes x) (signer_size s x p q)
 
-          pub inner-heads : InnerHeads six index (record { signer = signer.header; unsigned = unsigned.header; carrier = carrier.header; set = set.header; total = signer.total })
-          inner-heads s x p q = record {
+          pub inner_heads : InnerHeads six index (record { signer = signer.header; unsigned = unsigned.header; carrier = carrier.header; set = set.header; total = signer.total })
+          inner_heads s x p q = record {
             set = a.header x q;
-            carrier = b.header (indexType ++ setBytes x) (carrier-size x q);
-            unsigned = d.header (carrierBytes x) (sym (carrier-total x q));
-            signer = e.header (s ++ unsignedBytes x) (signer-size s x p q);
-            total = signer-total s x p q;
+            carrier = b.header (index_type ++ set_bytes x) (carrier_size x q);
+            unsigned = d.header (carrier_bytes x) (sym (carrier_total x q));
+            signer = e.header (s ++ unsigned_bytes x) (signer_size s x p q);
+            total = signer_total s x p q;
           }
 
 -- and around the signer
 module _ (identifier front signer : ℕ) where
-  pub signers-long : 65535 < signer → OuterLong identifier front signer
-  signers-long h i f s x p q r = omega (arith, grows-signers i f s x, grows-data i f s x, grows-field i f s x, grows-message i f s x, grows-values i f s x, grows-stamp i f s x)
+  pub signers_long : 65535 < signer → OuterLong identifier front signer
+  signers_long h i f s x p q r = omega (arith, grows_signers i f s x, grows_data i f s x, grows_field i f s x, grows_message i f s x, grows_values i f s x, grows_stamp i f s x)
 
   module _ (signers : Framed) (a : Framing signers 0x31 signer) where
-    signers-total : (s x : List ℕ) → length (signerBytes s x) ≡ signer → signers.total ≡ length (signersBytes s x)
-    unfolding signersBytes
-    signers-total s x r = a.total (signerBytes s x) r
+    signers_total : (s x : List ℕ) → length (signer_bytes s x) ≡ signer → signers.total ≡ length (signers_bytes s x)
+    unfolding signers_bytes
+    signers_total s x r = a.total (signer_bytes s x) r
 
-    pub data-long : 65535 < front + signers.total → OuterLong identifier front signer
-    data-long h i f s x p q r = omega (arith, signers-total s x r, grows-data i f s x, grows-field i f s x, grows-message i f s x, grows-values i f s x, grows-stamp i f s x)
+    pub data_long : 65535 < front + signers.total → OuterLong identifier front signer
+    data_long h i f s x p q r = omega (arith, signers_total s x r, grows_data i f s x, grows_field i f s x, grows_message i f s x, grows_values i f s x, grows_stamp i f s x)
 
     module _ (fields : Framed) (b : Framing fields 0x30 (front + signers.total)) where
-      data-size : (f s x : List ℕ) → length f ≡ front → length (signerBytes s x) ≡ signer → length (f ++ signersBytes s x) ≡ front + signers.total
-      data-size f s x q r = omega (arith, length-append f (signersBytes s x), signers-total s x r)
+      data_size : (f s x : List ℕ) → length f ≡ front → length (signer_bytes s x) ≡ signer → length (f ++ signers_bytes s x) ≡ front + signers.total
+      data_size f s x q r = omega (arith, length-append f (signers_bytes s x), signers_total s x r)
 
-      data-total : (f s x : List ℕ) → length f ≡ front → length (signerBytes s x) ≡ signer → fields.total ≡ length (dataBytes f s x)
-      unfolding dataBytes
-      data-total f s x q r = b.total (f ++ signersBytes s x) (data-size f s x q r)
+      data_total : (f s x : List ℕ) → length f ≡ front → length (signer_bytes s x) ≡ signer → fields.total ≡ length (data_bytes f s x)
+      unfolding data_bytes
+      data_total f s x q r = b.total (f ++ signers_bytes s x) (data_size f s x q r)
 
-      pub field-long : 65535 < fields.total → OuterLong identifier front signer
-      field-long h i f s x p q r = omega (arith, data-total f s x q r, grows-field i f s x, grows-message i f s x, grows-values i f s x, grows-stamp i f s x)
+      pub field_long : 65535 < fields.total → OuterLong identifier front signer
+      field_long h i f s x p q r = omega (arith, data_total f s x q r, grows_field i f s x, grows_message i f s x, grows_values i f s x, grows_stamp i f s x)
 
       module _ (field : Framed) (d : Framing field 0xa0 fields.total) where
-        field-total : (f s x : List ℕ) → length f ≡ front → length (signerBytes s x) ≡ signer → field.total ≡ length (fieldBytes f s x)
-        unfolding fieldBytes
-        field-total f s x q r = d.total (dataBytes f s x) (sym (data-total f s x q r))
+        field_total : (f s x : List ℕ) → length f ≡ front → length (signer_bytes s x) ≡ signer → field.total ≡ length (field_bytes f s x)
+        unfolding field_bytes
+        field_total f s x q r = d.total (data_bytes f s x) (sym (data_total f s x q r))
 
-        pub message-long : 65535 < identifier + field.total → OuterLong identifier front signer
-        message-long h i f s x p q r = omega (arith, field-total f s x q r, grows-message i f s x, grows-values i f s x, grows-stamp i f s x)
+        pub message_long : 65535 < identifier + field.total → OuterLong identifier front signer
+        message_long h i f s x p q r = omega (arith, field_total f s x q r, grows_message i f s x, grows_values i f s x, grows_stamp i f s x)
 
         module _ (message : Framed) (e : Framing message 0x30 (identifier + field.total)) where
-          message-size : (i f s x : List ℕ) → length i ≡ identifier → length f ≡ front → length (signerBytes s x) ≡ signer → length (i ++ fieldBytes f s x) ≡ identifier + field.total
-          message-size i f s x p q r = omega (arith, length-append i (fieldBytes f s x), field-total f s x q r)
+          message_size : (i f s x : List ℕ) → length i ≡ identifier → length f ≡ front → length (signer_bytes s x) ≡ signer → length (i ++ field_bytes f s x) ≡ identifier + field.total
+          message_size i f s x p q r = omega (arith, length-append i (field_bytes f s x), field_total f s x q r)
 
-          message-total : (i f s x : List ℕ) → length i ≡ identifier → length f ≡ front → length (signerBytes s x) ≡ signer → message.total ≡ length (messageBytes i f s x)
-          unfolding messageBytes
-          message-total i f s x p q r = e.total (i ++ fieldBytes f s x) (message-size i f s x p q r)
+          message_total : (i f s x : List ℕ) → length i ≡ identifier → length f ≡ front → length (signer_bytes s x) ≡ signer → message.total ≡ length (message_bytes i f s x)
+          unfolding message_bytes
+          message_total i f s x p q r = e.total (i ++ field_bytes f s x) (message_size i f s x p q r)
 
-          pub values-long : 65535 < message.total → OuterLong identifier front signer
-          values-long h i f s x p q r = omega (arith, message-total i f s x p q r, grows-values i f s x, grows-stamp i f s x)
+          pub values_long : 65535 < message.total → OuterLong identifier front signer
+          values_long h i f s x p q r = omega (arith, message_total i f s x p q r, grows_values i f s x, grows_stamp i f s x)
 
           module _ (values : Framed) (g : Framing values 0x31 message.total) where
-            values-total : (i f s x : List ℕ) → length i ≡ identifier → length f ≡ front → length (signerBytes s x) ≡ signer → values.total ≡ length (valuesBytes i f s x)
-            unfolding valuesBytes
-            values-total i f s x p q r = g.total (messageBytes i f s x) (sym (message-total i f s x p q r))
+            values_total : (i f s x : List ℕ) → length i ≡ identifier → length f ≡ front → length (signer_bytes s x) ≡ signer → values.total ≡ length (values_bytes i f s x)
+            unfolding values_bytes
+            values_total i f s x p q r = g.total (message_bytes i f s x) (sym (message_total i f s x p q r))
 
-            pub stamp-long : 65535 < 8 + values.total → OuterLong identifier front signer
-            stamp-long h i f s x p q r = omega (arith, values-total i f s x p q r, grows-stamp i f s x)
+            pub stamp_long : 65535 < 8 + values.total → OuterLong identifier front signer
+            stamp_long h i f s x p q r = omega (arith, values_total i f s x p q r, grows_stamp i f s x)
 
             module _ (stamp : Framed) (k : Framing stamp 0x30 (8 + values.total)) where
-              stamp-size : (i f s x : List ℕ) → length i ≡ identifier → length f ≡ front → length (signerBytes s x) ≡ signer → length (stampType ++ valuesBytes i f s x) ≡ 8 + values.total
-              stamp-size i f s x p q r = omega (arith, length-append stampType (valuesBytes i f s x), size-stamp, values-total i f s x p q r)
+              stamp_size : (i f s x : List ℕ) → length i ≡ identifier → length f ≡ front → length (signer_bytes s x) ≡ signer → length (stamp_type ++ values_bytes i f s x) ≡ 8 + values.total
+              stamp_size i f s x p q r = omega (arith, length-append stamp_type (values_bytes i f s x), size_stamp, values_total i f s x p q r)
 
-              stamp-total : (i f s x : List ℕ) → length i ≡ identifier → length f ≡ front → length (signerBytes s x) ≡ signer → stamp.total ≡ length (stampBytes i f s x)
-              unfolding stampBytes
-              stamp-total i f s x p q r = k.total (stampType ++ valuesBytes i f s x) (stamp-size i f s x p q r)
+              stamp_total : (i f s x : List ℕ) → length i ≡ identifier → length f ≡ front → length (signer_bytes s x) ≡ signer → stamp.total ≡ length (stamp_bytes i f s x)
+              unfolding stamp_bytes
+              stamp_total i f s x p q r = k.total (stamp_type ++ values_bytes i f s x) (stamp_size i f s x p q r)
 
-              pub outer-heads : OuterHeads identifier front signer
+              pub outer_heads : OuterHeads identifier front signer
                   (record { stamp = stamp.header; values = values.header; message = message.header; field = field.header; «data» = fields.header; signers = signers.header; total = stamp.total })
-              outer-heads i f s x p q r = record {
-                signers = a.header (signerBytes s x) r;
-                «data» = b.header (f ++ signersBytes s x) (data-size f s x q r);
-                field = d.header (dataBytes f s x) (sym (data-total f s x q r));
-                message = e.header (i ++ fieldBytes f s x) (message-size i f s x p q r);
-                values = g.header (messageBytes i f s x) (sym (message-total i f s x p q r));
-                stamp = k.header (stampType ++ valuesBytes i f s x) (stamp-size i f s x p q r);
-                total = stamp-total i f s x p q r;
+              outer_heads i f s x p q r = record {
+                signers = a.header (signer_bytes s x) r;
+                «data» = b.header (f ++ signers_bytes s x) (data_size f s x q r);
+                field = d.header (data_bytes f s x) (sym (data_total f s x q r));
+                message = e.header (i ++ field_bytes f s x) (message_size i f s x p q r);
+                values = g.header (message_bytes i f s x) (sym (message_total i f s x p q r));
+                stamp = k.header (stamp_type ++ values_bytes i f s x) (stamp_size i f s x p q r);
+                total = stamp_total i f s x p q r;
               }
 
 -- nothing is answered where one is too long
@@ -193,35 +193,35 @@ pub at_none : {X : Type 0} (o : Option X) (P : Type 0) (Q : X → Type 0) → o 
 at_none o P Q e p = subst (λ (y : Option _). MatchOption y P Q) (sym e) p
 
 -- the signer too long makes the stamp too long
-pub inner-long : (front six index : ℕ) → InnerLong six index → TooLong front six index
-inner-long front six index l f s x p q r =
+pub inner_long : (front six index : ℕ) → InnerLong six index → TooLong front six index
+inner_long front six index l f s x p q r =
     omega (
       arith,
       l s x q r,
-      grows-signers identifierBytes f s x,
-      grows-data identifierBytes f s x,
-      grows-field identifierBytes f s x,
-      grows-message identifierBytes f s x,
-      grows-values identifierBytes f s x,
-      grows-stamp identifierBytes f s x,
+      grows_signers identifier_bytes f s x,
+      grows_data identifier_bytes f s x,
+      grows_field identifier_bytes f s x,
+      grows_message identifier_bytes f s x,
+      grows_values identifier_bytes f s x,
+      grows_stamp identifier_bytes f s x,
     )
 
 -- a front or six fields too long make the stamp too long
-pub lead-long : (f s x : List ℕ) → 65535 < length f + length s → 65535 < length (stampBytes identifierBytes f s x)
-lead-long f s x h =
+pub lead_long : (f s x : List ℕ) → 65535 < length f + length s → 65535 < length (stamp_bytes identifier_bytes f s x)
+lead_long f s x h =
     omega (
       arith,
-      grows-signer s x,
-      grows-signers identifierBytes f s x,
-      grows-data identifierBytes f s x,
-      grows-field identifierBytes f s x,
-      grows-message identifierBytes f s x,
-      grows-values identifierBytes f s x,
-      grows-stamp identifierBytes f s x,
+      grows_signer s x,
+      grows_signers identifier_bytes f s x,
+      grows_data identifier_bytes f s x,
+      grows_field identifier_bytes f s x,
+      grows_message identifier_bytes f s x,
+      grows_values identifier_bytes f s x,
+      grows_stamp identifier_bytes f s x,
     )
 
 -- what is said of all bytes of these lengths is said of these
-pub of-these : (f s x : List ℕ) (o : Option Headers) → MatchOption o (TooLong (length f) (length s) (length x)) (Fitting (length f) (length s) (length x)) →
-    MatchOption o (65535 < length (stampBytes identifierBytes f s x)) (λ h. HeadsAll h f s x)
-of-these f s x None k = k f s x refl refl refl
-of-these f s x (Some h) k = k f s x refl refl refl
+pub of_these : (f s x : List ℕ) (o : Option Headers) → MatchOption o (TooLong (length f) (length s) (length x)) (Fitting (length f) (length s) (length x)) →
+    MatchOption o (65535 < length (stamp_bytes identifier_bytes f s x)) (λ h. HeadsAll h f s x)
+of_these f s x None k = k f s x refl refl refl
+of_these f s x (Some h) k = k f s x refl refl refl

@@ -4,42 +4,42 @@ use Rattle.der.specs.Spans.{part}
 use Rattle.der.specs.Trees.{Tree, Forest, none, more, encodes}
 use Rattle.fields.proofs.Standing.{At}
 use Rattle.cms.specs.declared.located.Message.{Message}
-use Rattle.cms.specs.Places.{messageAt}
+use Rattle.cms.specs.Places.{message_at}
 use Rattle.model.specs.Parts.{row, Signer}
-use Rattle.model.specs.Files.{File, fileTree, certificatesTree, revocationsTree, signersTree}
-use Rattle.rules.specs.Offsets.{skip, skipMaybe, dataAt, certificatesAt, revocationsAt, signersAt}
+use Rattle.model.specs.Files.{File, file_tree, certificates_tree, revocations_tree, signers_tree}
+use Rattle.rules.specs.Offsets.{skip, skip_maybe, data_at, certificates_at, revocations_at, signers_at}
 use Rattle.message.specs.Lies.{Lies}
-use Rattle.message.proofs.Lying.{fields, dataEnd, file-lies}
-use Rattle.message.proofs.SignerParts.{before, alone_at, six-stand}
-use Rattle.stamp_model.specs.Tokens.{Info, tokenSettings}
-use Rattle.stamp_model.specs.Covering.{sixBytes}
+use Rattle.message.proofs.Lying.{fields, data_end, file_lies}
+use Rattle.message.proofs.SignerParts.{before, alone_at, six_stand}
+use Rattle.stamp_model.specs.Tokens.{Info, token_settings}
+use Rattle.stamp_model.specs.Covering.{six_bytes}
 use Rattle.token.specs.declared.parts.TokenParts.{TokenParts}
 use Rattle.token.specs.Tokens.{IsToken, LiesAsToken}
-use Rattle.compose.specs.Fronts.{ifThere, frontTrees, frontBytes}
-use Rattle.compose.proofs.Encoding.{front-before}
+use Rattle.compose.specs.Fronts.{if_there, front_trees, front_bytes}
+use Rattle.compose.proofs.Encoding.{front_before}
 
 -- behind the front are the signers
-front_ends : (f : File) → skip (dataAt f) (frontTrees f) ≡ signersAt f
-front_ends f = lists (certificatesAt f) f.certificates f.revocations
+front_ends : (f : File) → skip (data_at f) (front_trees f) ≡ signers_at f
+front_ends f = lists (certificates_at f) f.certificates f.revocations
   where
-    lists : (p : ℕ) (cs rs : Option (List Tree)) → skip p (ifThere certificatesTree cs ++ ifThere revocationsTree rs) ≡ skipMaybe revocationsTree (skipMaybe certificatesTree p cs) rs
+    lists : (p : ℕ) (cs rs : Option (List Tree)) → skip p (if_there certificates_tree cs ++ if_there revocations_tree rs) ≡ skip_maybe revocations_tree (skip_maybe certificates_tree p cs) rs
     lists p None None = refl
     lists p None (Some rs) = refl
     lists p (Some cs) None = refl
     lists p (Some cs) (Some rs) = refl
 
-pub front-lies : (levels : ℕ) (bytes : List ℕ) (parts : TokenParts) (f : File) (s : Signer) (i : Info) → IsToken levels bytes f s i → LiesAsToken bytes parts f s i →
-    part bytes parts.message.whole.body parts.message.signers.field.start ≡ frontBytes f
-unfolding frontBytes
-front-lies levels bytes parts f s i k l =
+pub front_lies : (levels : ℕ) (bytes : List ℕ) (parts : TokenParts) (f : File) (s : Signer) (i : Info) → IsToken levels bytes f s i → LiesAsToken bytes parts f s i →
+    part bytes parts.message.whole.body parts.message.signers.field.start ≡ front_bytes f
+unfolding front_bytes
+front_lies levels bytes parts f s i k l =
     let m = parts.message in
-    let w = file-lies tokenSettings levels bytes f k.formed m l.message in
-    let a : At (levels - 1 - 1 - 1) bytes (dataAt f) (dataEnd f) (before (frontTrees f) (more (signersTree f) none)) =
-    subst (λ (y : Forest). At (levels - 1 - 1 - 1) bytes (dataAt f) (dataEnd f) y) (sym (front-before f (more (signersTree f) none))) (fields tokenSettings levels bytes f k.formed) in
+    let w = file_lies token_settings levels bytes f k.formed m l.message in
+    let a : At (levels - 1 - 1 - 1) bytes (data_at f) (data_end f) (before (front_trees f) (more (signers_tree f) none)) =
+    subst (λ (y : Forest). At (levels - 1 - 1 - 1) bytes (data_at f) (data_end f) y) (sym (front_before f (more (signers_tree f) none))) (fields token_settings levels bytes f k.formed) in
     ap (λ (y : Message). part bytes y.whole.body m.signers.field.start) l.message
-    ∙ ap (part bytes (dataAt f)) (w.starts ∙ sym (front_ends f))
-    ∙ (alone_at (levels - 1 - 1 - 1) bytes (dataAt f) (dataEnd f) (frontTrees f) (more (signersTree f) none) a).bytes
+    ∙ ap (part bytes (data_at f)) (w.starts ∙ sym (front_ends f))
+    ∙ (alone_at (levels - 1 - 1 - 1) bytes (data_at f) (data_end f) (front_trees f) (more (signers_tree f) none) a).bytes
 
-pub six-lie : (bytes : List ℕ) (parts : TokenParts) (f : File) (s : Signer) (i : Info) → LiesAsToken bytes parts f s i →
-    part bytes parts.signer.whole.body parts.signer.signature.end ≡ sixBytes s
-six-lie bytes parts f s i l = (six-stand bytes parts.signer s l.signer).bytes
+pub six_lie : (bytes : List ℕ) (parts : TokenParts) (f : File) (s : Signer) (i : Info) → LiesAsToken bytes parts f s i →
+    part bytes parts.signer.whole.body parts.signer.signature.end ≡ six_bytes s
+six_lie bytes parts f s i l = (six_stand bytes parts.signer s l.signer).bytes

@@ -2,16 +2,16 @@
 use Rattle.std.specs.Prelude.{ℕ, List, [], ◌∷◌, ◌++◌, Some, None, Option}
 use Rattle.der.specs.Trees.{leaf, framed, encode}
 use Rattle.model.specs.Parts.{Attribute, Signer}
-use Rattle.model.specs.Files.{File, fileTree}
-use Rattle.rules.specs.Kinds.{kindBytes}
+use Rattle.model.specs.Files.{File, file_tree}
+use Rattle.rules.specs.Kinds.{kind_bytes}
 use Rattle.rules.specs.declared.kinds.AttributeKind.TheVariants.{ArchiveStamp}
 use Rattle.stamp_model.specs.Indexes.{Index}
 use Rattle.stamp_model.specs.Tokens.{Info}
-use Rattle.stamp_model.specs.Stamps.{indexKind, carrying, Stamp}
+use Rattle.stamp_model.specs.Stamps.{index_kind, carrying, Stamp}
 
 -- the signer with an index as its one unsigned attribute
-abbrev pub signerWith : Index → Signer → Signer
-signerWith x s = record {
+abbrev pub signer_with : Index → Signer → Signer
+signer_with x s = record {
   identifier = s.identifier;
   digest = s.digest;
   signed = s.signed;
@@ -21,11 +21,11 @@ signerWith x s = record {
 }
 
 -- the token with this signer in place of its own
-abbrev pub tokenWith : File → Signer → File
-tokenWith f s = record {
+abbrev pub token_with : File → Signer → File
+token_with f s = record {
   version = f.version;
   digests = f.digests;
-  contentType = f.contentType;
+  content_type_of = f.content_type_of;
   content = f.content;
   certificates = f.certificates;
   revocations = f.revocations;
@@ -33,50 +33,50 @@ tokenWith f s = record {
 }
 
 -- the stamp that a token and an index make
-abbrev pub stampOf : File → Signer → Info → Index → Stamp
-stampOf f s i x = record { token = tokenWith f (signerWith x s); signer = signerWith x s; info = i; index = x }
+abbrev pub stamp_of : File → Signer → Info → Index → Stamp
+stamp_of f s i x = record { token = token_with f (signer_with x s); signer = signer_with x s; info = i; index = x }
 
 -- and its attribute
-abbrev pub stampAttribute : File → Signer → Index → Attribute
-stampAttribute f s x = record { kind = kindBytes ArchiveStamp; values = fileTree (tokenWith f (signerWith x s)) ∷ [] }
+abbrev pub stamp_attribute : File → Signer → Index → Attribute
+stamp_attribute f s x = record { kind = kind_bytes ArchiveStamp; values = file_tree (token_with f (signer_with x s)) ∷ [] }
 
 -- the elements of the two types
-unfoldable pub stampType : List ℕ
-stampType = encode (leaf 6 (kindBytes ArchiveStamp))
+unfoldable pub stamp_type : List ℕ
+stamp_type = encode (leaf 6 (kind_bytes ArchiveStamp))
 
-unfoldable pub indexType : List ℕ
-indexType = encode (leaf 6 indexKind)
+unfoldable pub index_type : List ℕ
+index_type = encode (leaf 6 index_kind)
 
 -- what the index is put into, from inside out: each element ends where the index ends
-unfoldable pub setBytes : List ℕ → List ℕ
-setBytes index = framed 0x31 index
+unfoldable pub set_bytes : List ℕ → List ℕ
+set_bytes index = framed 0x31 index
 
-unfoldable pub carrierBytes : List ℕ → List ℕ
-carrierBytes index = framed 0x30 (indexType ++ setBytes index)
+unfoldable pub carrier_bytes : List ℕ → List ℕ
+carrier_bytes index = framed 0x30 (index_type ++ set_bytes index)
 
-unfoldable pub unsignedBytes : List ℕ → List ℕ
-unsignedBytes index = framed 0xa1 (carrierBytes index)
+unfoldable pub unsigned_bytes : List ℕ → List ℕ
+unsigned_bytes index = framed 0xa1 (carrier_bytes index)
 
 -- behind the six fields of the signer
-unfoldable pub signerBytes : List ℕ → List ℕ → List ℕ
-signerBytes six index = framed 0x30 (six ++ unsignedBytes index)
+unfoldable pub signer_bytes : List ℕ → List ℕ → List ℕ
+signer_bytes six index = framed 0x30 (six ++ unsigned_bytes index)
 
-unfoldable pub signersBytes : List ℕ → List ℕ → List ℕ
-signersBytes six index = framed 0x31 (signerBytes six index)
+unfoldable pub signers_bytes : List ℕ → List ℕ → List ℕ
+signers_bytes six index = framed 0x31 (signer_bytes six index)
 
 -- behind the front of the signed data
-unfoldable pub dataBytes : List ℕ → List ℕ → List ℕ → List ℕ
-dataBytes front six index = framed 0x30 (front ++ signersBytes six index)
+unfoldable pub data_bytes : List ℕ → List ℕ → List ℕ → List ℕ
+data_bytes front six index = framed 0x30 (front ++ signers_bytes six index)
 
-unfoldable pub fieldBytes : List ℕ → List ℕ → List ℕ → List ℕ
-fieldBytes front six index = framed 0xa0 (dataBytes front six index)
+unfoldable pub field_bytes : List ℕ → List ℕ → List ℕ → List ℕ
+field_bytes front six index = framed 0xa0 (data_bytes front six index)
 
 -- behind the identifier of the message
-unfoldable pub messageBytes : List ℕ → List ℕ → List ℕ → List ℕ → List ℕ
-messageBytes identifier front six index = framed 0x30 (identifier ++ fieldBytes front six index)
+unfoldable pub message_bytes : List ℕ → List ℕ → List ℕ → List ℕ → List ℕ
+message_bytes identifier front six index = framed 0x30 (identifier ++ field_bytes front six index)
 
-unfoldable pub valuesBytes : List ℕ → List ℕ → List ℕ → List ℕ → List ℕ
-valuesBytes identifier front six index = framed 0x31 (messageBytes identifier front six index)
+unfoldable pub values_bytes : List ℕ → List ℕ → List ℕ → List ℕ → List ℕ
+values_bytes identifier front six index = framed 0x31 (message_bytes identifier front six index)
 
-unfoldable pub stampBytes : List ℕ → List ℕ → List ℕ → List ℕ → List ℕ
-stampBytes identifier front six index = framed 0x30 (stampType ++ valuesBytes identifier front six index)
+unfoldable pub stamp_bytes : List ℕ → List ℕ → List ℕ → List ℕ → List ℕ
+stamp_bytes identifier front six index = framed 0x30 (stamp_type ++ values_bytes identifier front six index)

@@ -2,11 +2,11 @@
 use Rattle.std.specs.Prelude.{◌≡◌, ℕ, List}
 use Rattle.model.specs.Parts.{Signer}
 use Rattle.model.specs.Files.{File}
-use Rattle.stamp_model.specs.Covering.{sixBytes}
+use Rattle.stamp_model.specs.Covering.{six_bytes}
 use Rattle.compose.specs.declared.leads.Leads.{Leads}
-use Rattle.compose.specs.Fronts.{frontBytes}
+use Rattle.compose.specs.Fronts.{front_bytes}
 
 -- the front of the signed data of f, and the six fields of s
 pub record Takes (leads : Leads) (f : File) (s : Signer) : Type 0 where
-  pub front : leads.front.now ≡ frontBytes f
-  pub six : leads.six.now ≡ sixBytes s
+  pub front : leads.front.now ≡ front_bytes f
+  pub six : leads.six.now ≡ six_bytes s

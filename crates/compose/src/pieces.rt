@@ -1,8 +1,8 @@
 //! The bytes of a composed stamp, piece by piece.
 ghost use Rattle.std.specs.Prelude.{◌≡◌, ℕ, ◌<◌, List, length, MatchOption};
 ghost use Rattle.std.specs.List.{flat_map};
-ghost use Rattle.compose.specs.Composed.{stampBytes};
-ghost use Rattle.compose.specs.Heads.{HeadsAll, identifierBytes};
+ghost use Rattle.compose.specs.Composed.{stamp_bytes};
+ghost use Rattle.compose.specs.Heads.{HeadsAll, identifier_bytes};
 
 use crate::headers::Headers;
 use crate::heading::head_all;
@@ -24,7 +24,7 @@ static INDEX_TYPE: [u8; 8] = [0x06, 0x06, 0x04, 0x00, 0x8d, 0x45, 0x02, 0x05];
 /// The pieces of a stamp in their order; joined they are the stamp.
 pub fn pieces_of<'a>(headers: &'a Headers, leads: Leads<'a>, index: &'a [u8]) -> [&'a [u8]; 16]
     ensures { HeadsAll headers.now leads.entry.front.now leads.entry.six.now index.now
-        → flat_map (λ p. p.now) result ≡ stampBytes identifierBytes leads.entry.front.now leads.entry.six.now index.now }
+        → flat_map (λ p. p.now) result ≡ stamp_bytes identifier_bytes leads.entry.front.now leads.entry.six.now index.now }
 {
     [
         headers.outer.stamp.as_slice(),
@@ -49,7 +49,7 @@ pub fn pieces_of<'a>(headers: &'a Headers, leads: Leads<'a>, index: &'a [u8]) ->
 /// The headers of the stamp that a token and an index make; none where the stamp would pass 65,535 bytes.
 /// Nothing is written: what they say is exact before the first byte is.
 pub fn headers_for(leads: Leads, index: &[u8]) -> Option<Headers>
-    ensures { MatchOption result (65535 < length (stampBytes identifierBytes leads.entry.front.now leads.entry.six.now index.now))
+    ensures { MatchOption result (65535 < length (stamp_bytes identifier_bytes leads.entry.front.now leads.entry.six.now index.now))
         (λ h. HeadsAll h leads.entry.front.now leads.entry.six.now index.now) }
 {
     let front = leads.front.len();
@@ -63,7 +63,7 @@ pub fn headers_for(leads: Leads, index: &[u8]) -> Option<Headers>
 impl Headers {
     /// How many bytes the stamp has in all.
     pub fn total(&self) -> usize
-        ensures { (front six index : List ℕ) → HeadsAll self.now front six index → result ≡ length (stampBytes identifierBytes front six index) }
+        ensures { (front six index : List ℕ) → HeadsAll self.now front six index → result ≡ length (stamp_bytes identifier_bytes front six index) }
     {
         self.outer.total
     }

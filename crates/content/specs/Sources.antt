@@ -7,22 +7,22 @@ use Rattle.digest.specs.declared.refusal.Refusal.TheVariants.{LongSource}
 use Rattle.content.specs.declared.segmented.Segmented.{Segmented}
 use Rattle.content.specs.declared.contents.FileContent.{FileContent}
 use Rattle.content.specs.declared.contents.FileContent.TheVariants.{Plain as PlainContent, Segmented as SegmentedContent}
-use Rattle.content.specs.Segments.{joinedOf}
+use Rattle.content.specs.Segments.{joined_of}
 
 -- the bytes that a segmented source stands for: those of its segments, up to the most that a source has
-abbrev pub segmentedBytes : Segmented → List ℕ
-segmentedBytes source = take 8388608 (joinedOf source.segments)
+abbrev pub segmented_bytes : Segmented → List ℕ
+segmented_bytes source = take 8388608 (joined_of source.segments)
 
 -- the bytes that a file's content stands for
 abbrev pub bytes_of : FileContent → List ℕ
 bytes_of (PlainContent source) = plainBytes source
-bytes_of (SegmentedContent source) = segmentedBytes source
+bytes_of (SegmentedContent source) = segmented_bytes source
 
 -- a segmented source that stands for just these bytes, or the refusal where they are too many
 abbrev pub Made : List ℕ → Result Segmented Refusal → Type 0
 Made bytes r =
     MatchResult r
-    (λ source. (length bytes ≤ 8388608) × (segmentedBytes source ≡ bytes))
+    (λ source. (length bytes ≤ 8388608) × (segmented_bytes source ≡ bytes))
     (λ refusal. (8388608 < length bytes) × (refusal ≡ LongSource))
 
 -- bytes are there, and too many for a source

@@ -1,5 +1,5 @@
 //! The content of a file, in one piece or in segments.
-ghost use Rattle.content.specs.Few.{few-content};
+ghost use Rattle.content.specs.Few.{few_content};
 ghost use Rattle.content.specs.Sources.{bytes_of};
 
 use crate::segmented::Segmented;
@@ -18,7 +18,7 @@ pub enum FileContent<'a> {
 impl<'a> Source for FileContent<'a> {
     ghost bytes = { bytes_of };
 
-    ghost few = { few-content };
+    ghost few = { few_content };
 
     fn len(&self) -> usize {
         match self {

@@ -1,7 +1,7 @@
 //! The source over segments.
-ghost use Rattle.content.specs.Few.{few-segmented};
-ghost use Rattle.content.specs.Segments.{joinedOf};
-ghost use Rattle.content.specs.Sources.{segmentedBytes, Made};
+ghost use Rattle.content.specs.Few.{few_segmented};
+ghost use Rattle.content.specs.Segments.{joined_of};
+ghost use Rattle.content.specs.Sources.{segmented_bytes, Made};
 
 use crate::segments::{count_bytes, read_segments};
 use der::Reader;
@@ -21,7 +21,7 @@ pub struct Segmented<'a> {
 impl<'a> Segmented<'a> {
     /// The source over the segments. Refuses more than 8,388,608 bytes.
     pub fn over(segments: Reader<'a>) -> Result<Segmented<'a>, Refusal>
-        ensures { Made (joinedOf segments.entry) result }
+        ensures { Made (joined_of segments.entry) result }
     {
         if count_bytes(segments) > MOST {
             return Err(Refusal::LongSource);
@@ -31,9 +31,9 @@ impl<'a> Segmented<'a> {
 }
 
 impl<'a> Source for Segmented<'a> {
-    ghost bytes = { segmentedBytes };
+    ghost bytes = { segmented_bytes };
 
-    ghost few = { few-segmented };
+    ghost few = { few_segmented };
 
     fn len(&self) -> usize {
         count_bytes(self.segments).min(MOST)

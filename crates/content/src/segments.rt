@@ -1,13 +1,13 @@
 //! Segments: elements back to back, whose contents are read as if they were joined.
 ghost use Rattle.std.specs.Prelude.{◌≡◌, length};
 ghost use Rattle.digest.specs.Read.{Read};
-ghost use Rattle.content.specs.Segments.{joinedOf};
+ghost use Rattle.content.specs.Segments.{joined_of};
 
 use der::Reader;
 
 /// How many bytes the contents of the elements have together.
 pub(crate) fn count_bytes(segments: Reader) -> usize
-    ensures { result ≡ length (joinedOf segments.entry) }
+    ensures { result ≡ length (joined_of segments.entry) }
 {
     let mut reader = segments;
     let mut count = 0;
@@ -31,7 +31,7 @@ fn copy_from(contents: &[u8], place: usize, block: &mut [u8]) -> usize
 
 /// The joined contents from `place` on go to the front of the block, as many as both allow. Answers how many.
 pub(crate) fn read_segments(segments: Reader, place: usize, block: &mut [u8]) -> usize
-    ensures { Read (joinedOf segments.entry) place block.old block.new result }
+    ensures { Read (joined_of segments.entry) place block.old block.new result }
 {
     let mut reader = segments;
     let mut passed = 0;

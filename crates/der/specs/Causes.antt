@@ -3,10 +3,10 @@ use Rattle.std.specs.Prelude.{ℕ}
 use Rattle.der.specs.declared.cause.Cause.{Cause}
 use Rattle.der.specs.declared.cause.Cause.TheVariants.{Missing, HighTag, Indefinite, HugeLength, LongLength, TooDeep}
 
-abbrev pub causeNumber : Cause → ℕ
-causeNumber Missing = 1
-causeNumber HighTag = 2
-causeNumber Indefinite = 3
-causeNumber HugeLength = 4
-causeNumber LongLength = 5
-causeNumber TooDeep = 6
+abbrev pub cause_number : Cause → ℕ
+cause_number Missing = 1
+cause_number HighTag = 2
+cause_number Indefinite = 3
+cause_number HugeLength = 4
+cause_number LongLength = 5
+cause_number TooDeep = 6

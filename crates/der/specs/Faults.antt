@@ -4,7 +4,7 @@ use Rattle.der.specs.declared.header.Header.{Header}
 use Rattle.der.specs.declared.fault.Fault.{Fault}
 use Rattle.der.specs.declared.cause.Cause.{Cause}
 use Rattle.der.specs.declared.cause.Cause.TheVariants.{TooDeep}
-use Rattle.der.specs.Head.{headerOf}
+use Rattle.der.specs.Head.{header_of}
 use Rattle.der.specs.Trees.{Starts, Constructed}
 
 -- the contents of the element whose header `bs` begins with
@@ -18,9 +18,9 @@ mutual
     deep : {levels : ℕ} {bs : List ℕ} {place : ℕ} {f : Fault} →
         levels ≡ 0 → f ≡ record { place = place; cause = TooDeep } → InElement levels bs place f
     head : {levels : ℕ} {bs : List ℕ} {place : ℕ} {f : Fault} (c : Cause) →
-        0 < levels → headerOf bs ≡ Err c → f ≡ record { place = place; cause = c } → InElement levels bs place f
+        0 < levels → header_of bs ≡ Err c → f ≡ record { place = place; cause = c } → InElement levels bs place f
     inside : {levels : ℕ} {bs : List ℕ} {place : ℕ} {f : Fault} (h : Header) →
-        0 < levels → headerOf bs ≡ Ok h → Constructed h.tag →
+        0 < levels → header_of bs ≡ Ok h → Constructed h.tag →
         InForest (levels - 1) (contents h bs) (place + h.head) f → InElement levels bs place f
 
   -- in the elements that `bs` is made of, back to back: in the first, or, that one being whole, in those behind it

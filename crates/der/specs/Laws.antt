@@ -5,14 +5,14 @@ use Rattle.der.specs.declared.fault.Fault.{Fault}
 use Rattle.der.specs.declared.header.Header.{Header}
 use Rattle.der.specs.declared.cause.Cause.{Cause}
 use Rattle.der.specs.declared.cause.Cause.TheVariants.{Missing, HighTag, Indefinite, HugeLength, LongLength}
-use Rattle.der.specs.Head.{headerOf}
+use Rattle.der.specs.Head.{header_of}
 use Rattle.der.specs.Headers.{Begins}
-use Rattle.der.specs.Trees.{Tree, Forest, Valid, Valids, encode, encodes, lengthBytes, Forms, Starts}
+use Rattle.der.specs.Trees.{Tree, Forest, Valid, Valids, encode, encodes, length_bytes, Forms, Starts}
 use Rattle.der.specs.Faults.{InElement, InForest}
 
 -- a header is read exactly where the bytes begin with it: reading and writing are inverse
 abbrev pub HeaderExact : Type 0
-HeaderExact = (bs : List ℕ) (h : Header) → Bytes bs → (headerOf bs ≡ Ok h → Begins bs h) × (Begins bs h → headerOf bs ≡ Ok h)
+HeaderExact = (bs : List ℕ) (h : Header) → Bytes bs → (header_of bs ≡ Ok h → Begins bs h) × (Begins bs h → header_of bs ≡ Ok h)
 
 -- bytes are written by one valid forest at most
 abbrev pub OneForest : Type 0
@@ -37,9 +37,9 @@ AlwaysOne = (levels : ℕ) (bs : List ℕ) (place : ℕ) → Bytes bs → Forms 
 
 -- the same of the element that the bytes begin with: one fault at most, never both, always one
 pub record FrontLaws : Type 0 where
-  pub one-fault : (levels : ℕ) (bs : List ℕ) (place : ℕ) (f g : Fault) → InElement levels bs place f → InElement levels bs place g → f ≡ g
+  pub one_fault : (levels : ℕ) (bs : List ℕ) (place : ℕ) (f g : Fault) → InElement levels bs place f → InElement levels bs place g → f ≡ g
   pub never_both : (levels : ℕ) (bs : List ℕ) (place n : ℕ) (f : Fault) → InElement levels bs place f → Starts levels bs n → ⊥
-  pub always-one : (levels : ℕ) (bs : List ℕ) (place : ℕ) → Bytes bs → ((n : ℕ) × Starts levels bs n) ⊎ ((f : Fault) × InElement levels bs place f)
+  pub always_one : (levels : ℕ) (bs : List ℕ) (place : ℕ) → Bytes bs → ((n : ℕ) × Starts levels bs n) ⊎ ((f : Fault) × InElement levels bs place f)
 
 abbrev at : ℕ → Cause → Fault
 at p c = record { place = p; cause = c }
@@ -47,9 +47,9 @@ at p c = record { place = p; cause = c }
 -- three lengths and five faults of an element with 32 levels
 abbrev pub Samples : Type 0
 Samples =
-    (lengthBytes 127 ≡ 0x7f ∷ [])
-    × (lengthBytes 128 ≡ 0x81 ∷ 0x80 ∷ [])
-    × (lengthBytes 256 ≡ 0x82 ∷ 0x01 ∷ 0x00 ∷ [])
+    (length_bytes 127 ≡ 0x7f ∷ [])
+    × (length_bytes 128 ≡ 0x81 ∷ 0x80 ∷ [])
+    × (length_bytes 256 ≡ 0x82 ∷ 0x01 ∷ 0x00 ∷ [])
     × InElement 32 (0x30 ∷ 0x81 ∷ 0x7f ∷ []) 0 (at 0 LongLength)
     × InElement 32 (0x30 ∷ 0x80 ∷ []) 0 (at 0 Indefinite)
     × InElement 32 (0x30 ∷ 0x83 ∷ []) 0 (at 0 HugeLength)

@@ -4,7 +4,7 @@ use Rattle.der.specs.declared.cause.Cause.{Cause}
 use Rattle.der.specs.declared.fault.Fault.{Fault}
 use Rattle.der.specs.declared.header.Header.{Header}
 use Rattle.der.specs.declared.span.Span.{Span}
-use Rattle.der.specs.Head.{headerOf}
+use Rattle.der.specs.Head.{header_of}
 use Rattle.der.specs.Trees.{Tree, Forest, encode, encodes, tag_of, body_of}
 
 -- the bytes from the offset `at` up to `end`
@@ -12,21 +12,21 @@ abbrev pub part : List ℕ → ℕ → ℕ → List ℕ
 part bs at end = take (end - at) (drop at bs)
 
 -- where the element lies whose header stands at `at`
-abbrev pub spanAt : ℕ → Header → Span
-spanAt at h = record { tag = h.tag; start = at; body = at + h.head; end = at + h.head + h.size }
+abbrev pub span_at : ℕ → Header → Span
+span_at at h = record { tag = h.tag; start = at; body = at + h.head; end = at + h.head + h.size }
 
 -- where the element lies whose header was read at `at`, or the fault there
 abbrev pub spanned : ℕ → Result Header Cause → Result Span Fault
-spanned at (Ok h) = Ok (spanAt at h)
+spanned at (Ok h) = Ok (span_at at h)
 spanned at (Err c) = Err (record { place = at; cause = c })
 
 -- the element at `at` of elements that end at `end`, by its header alone
-abbrev pub elementOf : List ℕ → ℕ → ℕ → Result Span Fault
-elementOf bs at end = spanned at (headerOf (part bs at end))
+abbrev pub element_of : List ℕ → ℕ → ℕ → Result Span Fault
+element_of bs at end = spanned at (header_of (part bs at end))
 
 -- the reader at `at` hands out the element there, and stands behind it
 pub record Handed (bs : List ℕ) (at end : ℕ) (s : Span) (after : ℕ) : Type 0 where
-  pub read : elementOf bs at end ≡ Ok s
+  pub read : element_of bs at end ≡ Ok s
   pub start : s.start ≡ at
   pub body : at < s.body
   pub ends : s.body ≤ s.end
@@ -35,7 +35,7 @@ pub record Handed (bs : List ℕ) (at end : ℕ) (s : Span) (after : ℕ) : Type
 
 -- the reader at `at` finds no header, and stays
 pub record Stayed (bs : List ℕ) (at end : ℕ) (f : Fault) (after : ℕ) : Type 0 where
-  pub read : elementOf bs at end ≡ Err f
+  pub read : element_of bs at end ≡ Err f
   pub stays : after ≡ at
 
 -- what is handed out is the tree `t`, and what is left are the trees `ts`

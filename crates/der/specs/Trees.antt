@@ -13,16 +13,16 @@ mutual
     more : Tree → Forest → Forest
 
 -- the shortest form of a length up to 65535
-abbrev pub lengthBytes : ℕ → List ℕ
-lengthBytes n = cond (nat_lt n 128) (n ∷ []) (cond (nat_lt n 256) (129 ∷ n ∷ []) (130 ∷ n / 256 ∷ n % 256 ∷ []))
+abbrev pub length_bytes : ℕ → List ℕ
+length_bytes n = cond (nat_lt n 128) (n ∷ []) (cond (nat_lt n 256) (129 ∷ n ∷ []) (130 ∷ n / 256 ∷ n % 256 ∷ []))
 
 -- the header of an element with so many bytes of contents
-abbrev pub headerBytes : ℕ → ℕ → List ℕ
-headerBytes tag size = tag ∷ lengthBytes size
+abbrev pub header_bytes : ℕ → ℕ → List ℕ
+header_bytes tag size = tag ∷ length_bytes size
 
 -- an element as bytes
 abbrev pub framed : ℕ → List ℕ → List ℕ
-framed tag body = tag ∷ (lengthBytes (length body) ++ body)
+framed tag body = tag ∷ (length_bytes (length body) ++ body)
 
 abbrev mutual
   pub encode : Tree → List ℕ

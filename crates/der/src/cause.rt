@@ -1,6 +1,6 @@
 //! Why bytes are no element.
 ghost use Rattle.std.specs.Prelude.{◌≡◌};
-ghost use Rattle.der.specs.Causes.{causeNumber};
+ghost use Rattle.der.specs.Causes.{cause_number};
 
 /// What is wrong with an element; each case has its number.
 #[derive(Clone, Copy)]
@@ -22,7 +22,7 @@ pub enum Cause {
 impl Cause {
     /// The number by which the cause is told.
     pub fn number(self) -> u8
-        ensures { result ≡ causeNumber self }
+        ensures { result ≡ cause_number self }
     {
         match self {
             Cause::Missing => 1,

@@ -1,6 +1,6 @@
 //! One header, taken apart byte by byte.
 ghost use Rattle.std.specs.Prelude.{◌≡◌};
-ghost use Rattle.der.specs.Head.{headerOf, length_of, fits};
+ghost use Rattle.der.specs.Head.{header_of, length_of, fits};
 
 use crate::cause::Cause;
 
@@ -14,7 +14,7 @@ pub struct Header {
 
 /// The header that the bytes begin with, whose contents have to end within the bytes; else why there is none.
 pub fn read_header(bytes: &[u8]) -> Result<Header, Cause>
-    ensures { result ≡ headerOf bytes.now }
+    ensures { result ≡ header_of bytes.now }
 {
     match bytes {
         [] => Err(Cause::Missing),

@@ -1,7 +1,7 @@
 //! Elements handed out one after another, each a part of the bytes with its offset.
 ghost use Rattle.std.specs.Prelude.{◌≡◌, ℕ, ◌+◌, ◌^◌, ◌<◌, length, MatchResult, nat_le};
 ghost use Rattle.der.specs.Trees.{Tree, node, Forest, more, Valids, encode, encodes};
-ghost use Rattle.der.specs.Spans.{part, spanAt, Handed, Stayed, FirstTree};
+ghost use Rattle.der.specs.Spans.{part, span_at, Handed, Stayed, FirstTree};
 
 use crate::element::Element;
 use crate::fault::Fault;
@@ -20,7 +20,7 @@ fn part_of<'a>(bytes: &'a [u8], at: usize, end: usize) -> &'a [u8]
 /// Where the element lies whose header stands at `start`.
 fn locate(start: usize, header: Header) -> Span
     requires { start + header.head + header.size < 2 ^ 64 }
-    ensures { result ≡ spanAt start header }
+    ensures { result ≡ span_at start header }
 {
     let body = start + header.head;
     Span {

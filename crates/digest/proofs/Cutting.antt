@@ -3,8 +3,8 @@ use Rattle.std.proofs.Common.{◌≡◌, ℕ, ◌-◌, ◌<◌, ◌≤◌, min, 
 use Rattle.std.proofs.lemmas.Bool.{cases_lt}
 
 -- a part that passes the end of its list ends there
-pub take-to-end : (xs : List ℕ) (from to end : ℕ) → end ≡ min to (length xs) → take (end - from) (drop from xs) ≡ take (to - from) (drop from xs)
-take-to-end xs from to end e =
+pub take_to_end : (xs : List ℕ) (from to end : ℕ) → end ≡ min to (length xs) → take (end - from) (drop from xs) ≡ take (to - from) (drop from xs)
+take_to_end xs from to end e =
     let long : length xs < to → take (end - from) (drop from xs) ≡ take (to - from) (drop from xs) = λ h.
     let here : length (drop from xs) ≤ end - from = simp length-drop (omega arith) in
     let there : length (drop from xs) ≤ to - from = simp length-drop (omega arith) in

@@ -10,41 +10,41 @@ use Rattle.digest.specs.declared.refusal.Refusal.{Refusal}
 use Rattle.digest.specs.declared.refusal.Refusal.TheVariants.{LongInput}
 
 -- what `c.typed` says of a slice of bytes
-pub bytes-from-typed : (xs : List ℕ) → ((i : ℕ) → Fits w8 (get_or xs i 0)) → Bytes xs
-bytes-from-typed xs h = All-from_get_or (λ b. b < 256) xs 0 (λ i _. (h i).fits)
+pub bytes_from_typed : (xs : List ℕ) → ((i : ℕ) → Fits w8 (get_or xs i 0)) → Bytes xs
+bytes_from_typed xs h = All-from_get_or (λ b. b < 256) xs 0 (λ i _. (h i).fits)
 
-ok-err : (u : Unit {0}) (e : Refusal) → ◌≡◌ {A = Result Unit Refusal} (Ok u) (Err e) → ⊥
-ok-err u e p = let z : ◌≡◌ {A = ℕ} 0 1 = cc in omega arith
+ok_err : (u : Unit {0}) (e : Refusal) → ◌≡◌ {A = Result Unit Refusal} (Ok u) (Err e) → ⊥
+ok_err u e p = let z : ◌≡◌ {A = ℕ} 0 1 = cc in omega arith
 
 module _ {S : Type 0} (stands : S → List ℕ → Type 0) (is : S) (block xs : List ℕ) (r : Result Unit Refusal) (t : Took stands is block xs r) where
-  pub took-ok : {u : Unit {0}} → r ≡ Ok u → (length xs + length block ≤ most) × stands is (xs ++ block)
-  took-ok p =
-      ⊎_elim (λ h. absurd (ok-err _ _ (sym p ∙ (t.over h).0))) (λ h. (h, (t.fits h).1)) (cases_lt most (length xs + length block))
+  pub took_ok : {u : Unit {0}} → r ≡ Ok u → (length xs + length block ≤ most) × stands is (xs ++ block)
+  took_ok p =
+      ⊎_elim (λ h. absurd (ok_err _ _ (sym p ∙ (t.over h).0))) (λ h. (h, (t.fits h).1)) (cases_lt most (length xs + length block))
 
-  pub took-err : {e : Refusal} → r ≡ Err e → (most < length xs + length block) × (r ≡ Err LongInput)
-  took-err p =
-      ⊎_elim (λ h. (h, (t.over h).0)) (λ h. absurd (ok-err _ _ (sym (t.fits h).0 ∙ p))) (cases_lt most (length xs + length block))
+  pub took_err : {e : Refusal} → r ≡ Err e → (most < length xs + length block) × (r ≡ Err LongInput)
+  took_err p =
+      ⊎_elim (λ h. (h, (t.over h).0)) (λ h. absurd (ok_err _ _ (sym (t.fits h).0 ∙ p))) (cases_lt most (length xs + length block))
 
-pub joined-append : {X A : Type 0} (f : X → List A) (xs ys : List X) → flat_map f (xs ++ ys) ≡ flat_map f xs ++ flat_map f ys
-joined-append f [] ys = refl
-joined-append f (x ∷ xs) ys = ap (λ z. f x ++ z) (joined-append f xs ys) ∙ sym (append_assoc (f x) (flat_map f xs) (flat_map f ys))
+pub joined_append : {X A : Type 0} (f : X → List A) (xs ys : List X) → flat_map f (xs ++ ys) ≡ flat_map f xs ++ flat_map f ys
+joined_append f [] ys = refl
+joined_append f (x ∷ xs) ys = ap (λ z. f x ++ z) (joined_append f xs ys) ∙ sym (append_assoc (f x) (flat_map f xs) (flat_map f ys))
 
 -- one piece more
-pub joined-next : {X A : Type 0} (f : X → List A) (xs : List X) (i : ℕ) (d : X) → i < length xs → flat_map f (take (i + 1) xs) ≡ flat_map f (take i xs) ++ f (get_or xs i d)
-joined-next f xs i d h =
-    ap (flat_map f) (take_more xs i d h) ∙ joined-append f (take i xs) (get_or xs i d ∷ []) ∙ ap (λ z. flat_map f (take i xs) ++ z) (append-nil (f (get_or xs i d)))
+pub joined_next : {X A : Type 0} (f : X → List A) (xs : List X) (i : ℕ) (d : X) → i < length xs → flat_map f (take (i + 1) xs) ≡ flat_map f (take i xs) ++ f (get_or xs i d)
+joined_next f xs i d h =
+    ap (flat_map f) (take_more xs i d h) ∙ joined_append f (take i xs) (get_or xs i d ∷ []) ∙ ap (λ z. flat_map f (take i xs) ++ z) (append-nil (f (get_or xs i d)))
 
 -- a front is no longer than the whole
-pub joined-front : {X A : Type 0} (f : X → List A) (xs : List X) (i : ℕ) → length (flat_map f (take i xs)) ≤ length (flat_map f xs)
-joined-front f xs i =
-    let e : flat_map f xs ≡ flat_map f (take i xs) ++ flat_map f (drop i xs) = ap (flat_map f) (sym (take-append-drop i xs)) ∙ joined-append f (take i xs) (drop i xs) in
+pub joined_front : {X A : Type 0} (f : X → List A) (xs : List X) (i : ℕ) → length (flat_map f (take i xs)) ≤ length (flat_map f xs)
+joined_front f xs i =
+    let e : flat_map f xs ≡ flat_map f (take i xs) ++ flat_map f (drop i xs) = ap (flat_map f) (sym (take-append-drop i xs)) ∙ joined_append f (take i xs) (drop i xs) in
     omega (arith, ap length e, length-append (flat_map f (take i xs)) (flat_map f (drop i xs)))
 
 -- the first pieces are a front of the whole
-pub joined-front-is : {X A : Type 0} (f : X → List A) (xs : List X) (i : ℕ) → take (length (flat_map f (take i xs))) (flat_map f xs) ≡ flat_map f (take i xs)
-joined-front-is f xs i =
-    let e : flat_map f xs ≡ flat_map f (take i xs) ++ flat_map f (drop i xs) = ap (flat_map f) (sym (take-append-drop i xs)) ∙ joined-append f (take i xs) (drop i xs) in
+pub joined_front_is : {X A : Type 0} (f : X → List A) (xs : List X) (i : ℕ) → take (length (flat_map f (take i xs))) (flat_map f xs) ≡ flat_map f (take i xs)
+joined_front_is f xs i =
+    let e : flat_map f xs ≡ flat_map f (take i xs) ++ flat_map f (drop i xs) = ap (flat_map f) (sym (take-append-drop i xs)) ∙ joined_append f (take i xs) (drop i xs) in
     ap (take (length (flat_map f (take i xs)))) e ∙ take_at (flat_map f (take i xs)) (flat_map f (drop i xs)) (length (flat_map f (take i xs))) refl
 
-pub joined-next-length : {X A : Type 0} (f : X → List A) (xs : List X) (i : ℕ) (d : X) → i < length xs → length (flat_map f (take (i + 1) xs)) ≡ length (flat_map f (take i xs)) + length (f (get_or xs i d))
-joined-next-length f xs i d h = ap length (joined-next f xs i d h) ∙ length-append (flat_map f (take i xs)) (f (get_or xs i d))
+pub joined_next_length : {X A : Type 0} (f : X → List A) (xs : List X) (i : ℕ) (d : X) → i < length xs → length (flat_map f (take (i + 1) xs)) ≡ length (flat_map f (take i xs)) + length (f (get_or xs i d))
+joined_next_length f xs i d h = ap length (joined_next f xs i d h) ∙ length-append (flat_map f (take i xs)) (f (get_or xs i d))

@@ -2,7 +2,7 @@
 //! Input of more than 16,777,216 bytes gives the line `refused 16`.
 ghost use Rattle.std.specs.Prelude.{◌≡◌, ℕ, List, ◌++◌, IfOk, codes};
 ghost use Rattle.digest.specs.Took.{Took};
-ghost use Rattle.digest_line.specs.Hex.{hexOf};
+ghost use Rattle.digest_line.specs.Hex.{hex_of};
 ghost use Rattle.sha256.specs.Sha.{sha256 as Sha};
 ghost use Rattle.sha256.specs.Streams.{Holds};
 ghost use Rattle.sha3.specs.Sha3.{sha3 as Keccak256};
@@ -41,7 +41,7 @@ impl Digests {
     /// A line for each digest.
     fn lines(&self, heap: Global) -> Result<Vec<u8>, AllocError>
         ensures { (xs : List ℕ) → Holds self.now.sha256.stream xs → Absorbed self.now.sha3.stream xs
-            → IfOk result (λ lines. lines.items ≡ ((hexOf (Sha xs) ++ codes "  -\n") ++ hexOf (Keccak256 xs)) ++ codes "  -\n") }
+            → IfOk result (λ lines. lines.items ≡ ((hex_of (Sha xs) ++ codes "  -\n") ++ hex_of (Keccak256 xs)) ++ codes "  -\n") }
     {
         let line = digest_line(heap, b"", &self.sha256, b"  -\n")?;
         digest_line(heap, line.as_slice(), &self.sha3, b"  -\n")

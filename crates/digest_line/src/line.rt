@@ -1,20 +1,20 @@
 //! A line with a digest in hexadecimal digits.
 ghost use Rattle.std.specs.Prelude.{◌≡◌, ℕ, ◌-◌, ◌<◌, ◌≤◌, List, ◌++◌, length, take, IfOk, OnOk};
-ghost use Rattle.digest_line.specs.Hex.{digitOf, hexOf};
+ghost use Rattle.digest_line.specs.Hex.{digit_for, hex_of};
 
 use digest::interface::Digest;
 use std::alloc::{AllocError, Global};
 
 fn digit(n: u8) -> u8
     requires { n < 16 }
-    ensures { result ≡ digitOf n }
+    ensures { result ≡ digit_for n }
 {
     if n < 10 { b'0' + n } else { b'a' + (n - 10) }
 }
 
 /// Appends the bytes, each as two digits.
 fn push_hex(text: &mut Vec<u8>, bytes: &[u8]) -> Result<(), AllocError>
-    ensures { OnOk result (text.new.items ≡ text.old.items ++ hexOf bytes.now) }
+    ensures { OnOk result (text.new.items ≡ text.old.items ++ hex_of bytes.now) }
 {
     for b in bytes {
         text.extend_from_slice(&[digit(*b / 16), digit(*b % 16)])?;
@@ -24,7 +24,7 @@ fn push_hex(text: &mut Vec<u8>, bytes: &[u8]) -> Result<(), AllocError>
 
 /// The text `front`, the bytes in hexadecimal digits, and the text `end`. Fails only for want of memory.
 pub fn hex_line(heap: Global, front: &[u8], bytes: &[u8], end: &[u8]) -> Result<Vec<u8>, AllocError>
-    ensures { IfOk result (λ line. line.items ≡ (front.now ++ hexOf bytes.now) ++ end.now) }
+    ensures { IfOk result (λ line. line.items ≡ (front.now ++ hex_of bytes.now) ++ end.now) }
 {
     let mut line = Vec::new(heap);
     line.extend_from_slice(front)?;
@@ -50,7 +50,7 @@ pub fn digest_line<G: Digest>(
     state: &G,
     end: &[u8],
 ) -> Result<Vec<u8>, AllocError>
-    ensures { (xs : List ℕ) → stands state.now xs → IfOk result (λ line. line.items ≡ (front.now ++ hexOf (value xs)) ++ end.now) }
+    ensures { (xs : List ℕ) → stands state.now xs → IfOk result (λ line. line.items ≡ (front.now ++ hex_of (value xs)) ++ end.now) }
 {
     let mut area = [0u8; 64];
     let width = finish_into(state, &mut area);

@@ -11,12 +11,12 @@ pub set : Constructed 0x31
 set z = let y : ◌≡◌ {A = ℕ} 32 0 = z in omega arith
 
 -- a field, a0
-pub field-zero : Constructed 0xa0
-field-zero z = let y : ◌≡◌ {A = ℕ} 32 0 = z in omega arith
+pub field_zero : Constructed 0xa0
+field_zero z = let y : ◌≡◌ {A = ℕ} 32 0 = z in omega arith
 
 -- a field, a1
-pub field-one : Constructed 0xa1
-field-one z = let y : ◌≡◌ {A = ℕ} 32 0 = z in omega arith
+pub field_one : Constructed 0xa1
+field_one z = let y : ◌≡◌ {A = ℕ} 32 0 = z in omega arith
 
 -- segments, 24
 pub segments : Constructed 0x24

@@ -4,7 +4,7 @@ use Rattle.std.specs.Str.{bytes_eq}
 use Rattle.der.specs.declared.fault.Fault.{Fault}
 use Rattle.der.specs.declared.reader.Reader.{Reader}
 use Rattle.der.specs.declared.span.Span.{Span}
-use Rattle.der.specs.Spans.{elementOf, part}
+use Rattle.der.specs.Spans.{element_of, part}
 use Rattle.fields.specs.declared.located.Number.{Number}
 use Rattle.fields.specs.declared.located.Entries.{Entries}
 
@@ -24,51 +24,51 @@ placed at (Err f) = Err at
 
 -- the element at `at`, in contents that go to `end`; where none is, the contents end at `at`
 abbrev pub any_of : List ℕ → ℕ → ℕ → Result Span ℕ
-any_of file at end = placed at (elementOf file at end)
+any_of file at end = placed at (element_of file at end)
 
 -- with one of these tags
 abbrev pub tagged : ℕ → (ℕ → Bool) → Span → Result Span ℕ
 tagged at tags e = cond (tags e.tag) (Ok e) (Err at)
 
-abbrev pub allowedOf : (ℕ → Bool) → List ℕ → ℕ → ℕ → Result Span ℕ
-allowedOf tags file at end = any_of file at end >>= tagged at tags
+abbrev pub allowed_of : (ℕ → Bool) → List ℕ → ℕ → ℕ → Result Span ℕ
+allowed_of tags file at end = any_of file at end >>= tagged at tags
 
 abbrev pub is : ℕ → ℕ → Bool
 is tag other = other == tag
 
-abbrev pub expectOf : ℕ → List ℕ → ℕ → ℕ → Result Span ℕ
-expectOf tag file at end = allowedOf (is tag) file at end
+abbrev pub expect_of : ℕ → List ℕ → ℕ → ℕ → Result Span ℕ
+expect_of tag file at end = allowed_of (is tag) file at end
 
 -- the element at `at` if it has the tag
-abbrev pub ifTagged : ℕ → Result Span ℕ → Option Span
-ifTagged tag (Ok e) = cond (e.tag == tag) (Some e) None
-ifTagged tag (Err p) = None
+abbrev pub if_tagged : ℕ → Result Span ℕ → Option Span
+if_tagged tag (Ok e) = cond (e.tag == tag) (Some e) None
+if_tagged tag (Err p) = None
 
-abbrev pub optionalOf : ℕ → List ℕ → ℕ → ℕ → Option Span
-optionalOf tag file at end = ifTagged tag (any_of file at end)
+abbrev pub optional_of : ℕ → List ℕ → ℕ → ℕ → Option Span
+optional_of tag file at end = if_tagged tag (any_of file at end)
 
 -- nothing more
-abbrev pub finishOf : ℕ → ℕ → Result (Unit {0}) ℕ
-finishOf at end = cond (nat_lt at end) (Err at) (Ok tt)
+abbrev pub finish_of : ℕ → ℕ → Result (Unit {0}) ℕ
+finish_of at end = cond (nat_lt at end) (Err at) (Ok tt)
 
 -- an element tagged 02 of one byte
-abbrev pub byteIn : ℕ → Span → List ℕ → Result Number ℕ
-byteIn at e [] = Err at
-byteIn at e (v ∷ []) = Ok (record { element = e; value = v })
-byteIn at e (v ∷ w ∷ vs) = Err at
+abbrev pub byte_in : ℕ → Span → List ℕ → Result Number ℕ
+byte_in at e [] = Err at
+byte_in at e (v ∷ []) = Ok (record { element = e; value = v })
+byte_in at e (v ∷ w ∷ vs) = Err at
 
-abbrev pub contentsAt : List ℕ → Span → List ℕ
-contentsAt file e = part file e.body e.end
+abbrev pub contents_at : List ℕ → Span → List ℕ
+contents_at file e = part file e.body e.end
 
 abbrev pub number_of : List ℕ → ℕ → ℕ → Result Number ℕ
-number_of file at end = expectOf 2 file at end >>= (λ e. byteIn at e (contentsAt file e))
+number_of file at end = expect_of 2 file at end >>= (λ e. byte_in at e (contents_at file e))
 
 -- an identifier, tagged 06, with these contents
-abbrev pub sameAs : List ℕ → List ℕ → ℕ → Span → Result Span ℕ
-sameAs identifier file at e = cond (bytes_eq (contentsAt file e) identifier) (Ok e) (Err at)
+abbrev pub same_as : List ℕ → List ℕ → ℕ → Span → Result Span ℕ
+same_as identifier file at e = cond (bytes_eq (contents_at file e) identifier) (Ok e) (Err at)
 
 abbrev pub named_of : List ℕ → List ℕ → ℕ → ℕ → Result Span ℕ
-named_of identifier file at end = expectOf 6 file at end >>= sameAs identifier file at
+named_of identifier file at end = expect_of 6 file at end >>= same_as identifier file at
 
 -- a reading of one element
 abbrev pub Reading : Type 0
@@ -84,31 +84,31 @@ abbrev pub list_of : Reading → List ℕ → ℕ → ℕ → Result ℕ ℕ
 list_of each file at end = count_of each (end - at) file at end 0
 
 -- the same, at least one
-abbrev pub someOf : Reading → List ℕ → ℕ → ℕ → Result ℕ ℕ
-someOf each file at end = cond (nat_lt at end) (list_of each file at end) (Err end)
+abbrev pub some_of : Reading → List ℕ → ℕ → ℕ → Result ℕ ℕ
+some_of each file at end = cond (nat_lt at end) (list_of each file at end) (Err end)
 
 -- a field that holds a list
-abbrev pub entriesIn : (List ℕ → ℕ → ℕ → Result ℕ ℕ) → List ℕ → Span → Result Entries ℕ
-entriesIn counted file field = counted file field.body field.end >>= (λ count. Ok (record { field = field; count = count }))
+abbrev pub entries_in : (List ℕ → ℕ → ℕ → Result ℕ ℕ) → List ℕ → Span → Result Entries ℕ
+entries_in counted file field = counted file field.body field.end >>= (λ count. Ok (record { field = field; count = count }))
 
 -- a field that may be there, with a reading of its contents
-abbrev pub maybeOf : {Y : Type 0} → (Span → Result Y ℕ) → Option Span → Result (Option Y) ℕ
-maybeOf inside None = Ok None
-maybeOf inside (Some field) = inside field >>= (λ y. Ok (Some y))
+abbrev pub maybe_of : {Y : Type 0} → (Span → Result Y ℕ) → Option Span → Result (Option Y) ℕ
+maybe_of inside None = Ok None
+maybe_of inside (Some field) = inside field >>= (λ y. Ok (Some y))
 
 -- the offset behind it, where it would stand at `at`
 abbrev pub behind : {Y : Type 0} → (Y → ℕ) → ℕ → Option Y → ℕ
 behind stop at None = at
 behind stop at (Some y) = stop y
 
-abbrev pub spanStop : Span → ℕ
-spanStop e = e.end
+abbrev pub span_stop : Span → ℕ
+span_stop e = e.end
 
-abbrev pub numberStop : Number → ℕ
-numberStop n = n.element.end
+abbrev pub number_stop : Number → ℕ
+number_stop n = n.element.end
 
-abbrev pub entriesStop : Entries → ℕ
-entriesStop entries = entries.field.end
+abbrev pub entries_stop : Entries → ℕ
+entries_stop entries = entries.field.end
 
 -- where a reading breaks off
 abbrev pub broke : {X : Type 0} → Result X ℕ → Option ℕ
@@ -133,7 +133,7 @@ pub record ReadsMaybe {Y : Type 0} (outcome : List ℕ → ℕ → ℕ → Resul
 
 -- an optional element: the reader goes behind it, or stays
 pub record FindsOptional (tag : ℕ) (was is : Reader) (r : Option Span) : Type 0 where
-  pub value : r ≡ optionalOf tag was.bytes.now was.at was.end
+  pub value : r ≡ optional_of tag was.bytes.now was.at was.end
   pub bytes : is.bytes.now ≡ was.bytes.now
   pub end : is.end ≡ was.end
-  pub moved : is.at ≡ behind spanStop was.at r
+  pub moved : is.at ≡ behind span_stop was.at r

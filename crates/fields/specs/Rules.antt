@@ -2,18 +2,18 @@
 -- A rule is given the place of the elements that are left. Where it wants one and none is left, that place is the end of the contents.
 use Rattle.std.specs.Prelude.{ℕ, suc, ◌+◌, Bool, false, cond, List, [], ◌∷◌, length, Some, None, Option, ◌==◌}
 use Rattle.fields.specs.Reads.{is}
-use Rattle.der.specs.Trees.{Tree, leaf, node, Forest, none, more, lengthBytes, tag_of, body_of}
+use Rattle.der.specs.Trees.{Tree, leaf, node, Forest, none, more, length_bytes, tag_of, body_of}
 
 -- the contents as elements
 abbrev pub parts_of : Tree → Forest
 parts_of (leaf tag body) = none
 parts_of (node tag parts) = parts
 
-abbrev pub headSize : Tree → ℕ
-headSize t = suc (length (lengthBytes (length (body_of t))))
+abbrev pub head_size : Tree → ℕ
+head_size t = suc (length (length_bytes (length (body_of t))))
 
-abbrev pub bodySize : Tree → ℕ
-bodySize t = length (body_of t)
+abbrev pub body_size : Tree → ℕ
+body_size t = length (body_of t)
 
 abbrev pub Rule : Type 0
 Rule = ℕ → Forest → Option ℕ
@@ -37,7 +37,7 @@ free p ts = None
 
 -- the first element's contents by one rule, and then what is behind it by another
 abbrev pub onward : Rule → Rule → ℕ → Tree → Forest → Option ℕ
-onward inner next p t ts = or_else (inner (p + headSize t) (parts_of t)) (next (p + headSize t + bodySize t) ts)
+onward inner next p t ts = or_else (inner (p + head_size t) (parts_of t)) (next (p + head_size t + body_size t) ts)
 
 -- one element with such a tag
 abbrev pub field : Tags → Rule → Rule → Rule
@@ -53,7 +53,7 @@ optional tags inner next p (more t ts) = cond (tags (tag_of t)) (onward inner ne
 abbrev pub list : Tags → Rule → Rule
 list tags inner p none = None
 list tags inner p (more t ts) =
-    cond (tags (tag_of t)) (or_else (inner (p + headSize t) (parts_of t)) (list tags inner (p + headSize t + bodySize t) ts)) (Some p)
+    cond (tags (tag_of t)) (or_else (inner (p + head_size t) (parts_of t)) (list tags inner (p + head_size t + body_size t) ts)) (Some p)
 
 -- at least one
 abbrev pub some : Tags → Rule → Rule
@@ -66,7 +66,7 @@ follow (Some next) wrong p ts = next p ts
 
 abbrev pub choose : ℕ → (List ℕ → Option Rule) → Rule
 choose tag next p none = Some p
-choose tag next p (more t ts) = cond (is tag (tag_of t)) (follow (next (body_of t)) p (p + headSize t + bodySize t) ts) (Some p)
+choose tag next p (more t ts) = cond (is tag (tag_of t)) (follow (next (body_of t)) p (p + head_size t + body_size t) ts) (Some p)
 
 -- the contents are the one byte v
 abbrev pub one : ℕ → List ℕ → Bool

@@ -1,14 +1,14 @@
 //! Single elements of a message, read in turn.
 ghost use Rattle.std.specs.Prelude.{◌≡◌, MatchResult};
 ghost use Rattle.std.specs.Str.{bytes_eq};
-ghost use Rattle.fields.specs.Reads.{Reads, FindsOptional, any_of, expectOf, optionalOf, finishOf, number_of, named_of, spanStop, numberStop};
+ghost use Rattle.fields.specs.Reads.{Reads, FindsOptional, any_of, expect_of, optional_of, finish_of, number_of, named_of, span_stop, number_stop};
 
 use crate::located::Number;
 use der::{Element, Reader, Span};
 
 /// The next element, whatever its tag; where there is none, the place where the contents end.
 pub fn read_any(reader: &mut Reader) -> Result<Span, usize>
-    ensures { Reads any_of spanStop reader.old reader.new result }
+    ensures { Reads any_of span_stop reader.old reader.new result }
 {
     let at = reader.at;
     match reader.next() {
@@ -19,7 +19,7 @@ pub fn read_any(reader: &mut Reader) -> Result<Span, usize>
 
 /// The next element, which must have the tag.
 pub fn expect(reader: &mut Reader, tag: u8) -> Result<Span, usize>
-    ensures { Reads (expectOf tag) spanStop reader.old reader.new result }
+    ensures { Reads (expect_of tag) span_stop reader.old reader.new result }
 {
     let at = reader.at;
     let element = read_any(reader)?;
@@ -57,7 +57,7 @@ pub fn enter<'a>(reader: &Reader<'a>, element: Span) -> Reader<'a>
 
 /// Nothing more.
 pub fn finish(reader: &Reader) -> Result<(), usize>
-    ensures { result ≡ finishOf reader.now.at reader.now.end }
+    ensures { result ≡ finish_of reader.now.at reader.now.end }
 {
     if reader.at < reader.end {
         Err(reader.at)
@@ -68,7 +68,7 @@ pub fn finish(reader: &Reader) -> Result<(), usize>
 
 /// The next element, tagged 02, of one byte.
 pub fn read_number(reader: &mut Reader) -> Result<Number, usize>
-    ensures { Reads number_of numberStop reader.old reader.new result }
+    ensures { Reads number_of number_stop reader.old reader.new result }
 {
     let at = reader.at;
     let element = expect(reader, 0x02)?;
@@ -94,7 +94,7 @@ pub fn same(bytes: &[u8], other: &[u8]) -> bool
 
 /// The next element, tagged 06, with these contents.
 pub fn expect_identifier(reader: &mut Reader, identifier: &[u8]) -> Result<Span, usize>
-    ensures { Reads (named_of identifier.now) spanStop reader.old reader.new result }
+    ensures { Reads (named_of identifier.now) span_stop reader.old reader.new result }
 {
     let at = reader.at;
     let element = expect(reader, 0x06)?;

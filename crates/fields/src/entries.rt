@@ -1,6 +1,6 @@
 //! Lists of elements in a field.
 ghost use Rattle.std.specs.Prelude.{◌≡◌};
-ghost use Rattle.fields.specs.Reads.{Reads, ReadsMaybe, Reading, list_of, someOf, entriesIn, maybeOf, optionalOf, entriesStop, spanStop};
+ghost use Rattle.fields.specs.Reads.{Reads, ReadsMaybe, Reading, list_of, some_of, entries_in, maybe_of, optional_of, entries_stop, span_stop};
 
 use crate::elements::{enter, read_optional};
 use crate::located::Entries;
@@ -12,7 +12,7 @@ pub trait Entry {
     ghost outcome: { Reading };
 
     fn read(reader: &mut Reader) -> Result<Span, usize>
-        ensures { Reads outcome spanStop reader.old reader.new result };
+        ensures { Reads outcome span_stop reader.old reader.new result };
 }
 
 /// How many entries stand from the reader's offset to its end.
@@ -30,7 +30,7 @@ pub fn count<E: Entry>(inside: Reader) -> Result<usize, usize>
 
 /// The same, at least one.
 pub fn count_some<E: Entry>(inside: Reader) -> Result<usize, usize>
-    ensures { result ≡ someOf outcome inside.entry.bytes.now inside.entry.at inside.entry.end }
+    ensures { result ≡ some_of outcome inside.entry.bytes.now inside.entry.at inside.entry.end }
 {
     if inside.at < inside.end {
         count::<E>(inside)

@@ -1,6 +1,6 @@
 //! Kinds of entries that lists of several messages have.
 ghost use Rattle.std.specs.Prelude.{◌≡◌};
-ghost use Rattle.fields.specs.Reads.{Reads, spanStop, any_of, expectOf};
+ghost use Rattle.fields.specs.Reads.{Reads, span_stop, any_of, expect_of};
 
 use crate::elements::{expect, read_any};
 use crate::entries::Entry;
@@ -21,7 +21,7 @@ impl Entry for Anything {
 pub struct Octets;
 
 impl Entry for Octets {
-    ghost outcome = { expectOf 4 };
+    ghost outcome = { expect_of 4 };
 
     fn read(reader: &mut Reader) -> Result<Span, usize> {
         expect(reader, 0x04)

@@ -4,8 +4,8 @@ use lib.Seq.{paste}
 use borrow.Rule.Slice.PartMut.{put_mid}
 use Rattle.std.proofs.lemmas.Slice.{between_is}
 use Rattle.std.proofs.lemmas.List.{append_assoc, take-append-le, take-append-drop, take-take, drop-drop, drop_at, take_at, length-take-le, length-append, length-drop}
-use Rattle.der.specs.Headers.{headerSize}
-use Rattle.der.specs.Trees.{framed, headerBytes}
+use Rattle.der.specs.Headers.{header_size_of}
+use Rattle.der.specs.Trees.{framed, header_bytes}
 use Rattle.grow.specs.Splices.{overlay, Parted, Spliced}
 
 -- a part that is written is written over
@@ -15,12 +15,12 @@ written_over at k buffer new part e q =
     ∙ ap (λ (x : List ℕ). take at buffer ++ (new ++ x)) (drop-drop k at buffer ∙ ap (λ (x : ℕ). drop (at + x) buffer) e)
 
 -- nothing is written over nothing
-pub overlay-none : (at : ℕ) (buffer : List ℕ) → buffer ≡ overlay at [] buffer
-overlay-none at buffer = sym (take-append-drop at buffer) ∙ ap (λ (x : ℕ). take at buffer ++ drop x buffer) (sym (add-zero at))
+pub overlay_none : (at : ℕ) (buffer : List ℕ) → buffer ≡ overlay at [] buffer
+overlay_none at buffer = sym (take-append-drop at buffer) ∙ ap (λ (x : ℕ). take at buffer ++ drop x buffer) (sym (add-zero at))
 
 -- bytes written behind others are written with them
-pub overlay-more : (at : ℕ) (a b buffer : List ℕ) → at ≤ length buffer → overlay (at + length a) b (overlay at a buffer) ≡ overlay at (a ++ b) buffer
-overlay-more at a b buffer l =
+pub overlay_more : (at : ℕ) (a b buffer : List ℕ) → at ≤ length buffer → overlay (at + length a) b (overlay at a buffer) ≡ overlay at (a ++ b) buffer
+overlay_more at a b buffer l =
     let A : List ℕ = take at buffer in
     let D : List ℕ = drop (at + length a) buffer in
     let whole : overlay at a buffer ≡ (A ++ a) ++ D = sym (append_assoc A a D) in
@@ -36,16 +36,16 @@ overlay-more at a b buffer l =
     ∙ ap (λ (x : List ℕ). A ++ x) (sym (append_assoc a b (drop (at + length (a ++ b)) buffer)))
 
 -- contents written behind their header are written as an element
-pub overlay-framed : (at head tag : ℕ) (body buffer : List ℕ) (size : ℕ) → at ≤ length buffer → length body ≡ size → head ≡ headerSize size →
-    overlay (at + head) body (overlay at (headerBytes tag size) buffer) ≡ overlay at (framed tag body) buffer
-overlay-framed at head tag body buffer size l e h =
-    ap (λ (x : ℕ). overlay (at + x) body (overlay at (headerBytes tag size) buffer)) h
-    ∙ overlay-more at (headerBytes tag size) body buffer l
-    ∙ ap (λ (x : ℕ). overlay at (headerBytes tag x ++ body) buffer) (sym e)
+pub overlay_framed : (at head tag : ℕ) (body buffer : List ℕ) (size : ℕ) → at ≤ length buffer → length body ≡ size → head ≡ header_size_of size →
+    overlay (at + head) body (overlay at (header_bytes tag size) buffer) ≡ overlay at (framed tag body) buffer
+overlay_framed at head tag body buffer size l e h =
+    ap (λ (x : ℕ). overlay (at + x) body (overlay at (header_bytes tag size) buffer)) h
+    ∙ overlay_more at (header_bytes tag size) body buffer l
+    ∙ ap (λ (x : ℕ). overlay at (header_bytes tag x ++ body) buffer) (sym e)
 
 -- a gap of no bytes
-pub parted-none : (buffer : List ℕ) (n at size : ℕ) → at ≤ n → n ≤ length buffer → size ≡ 0 → Parted buffer buffer n at size
-parted-none buffer n at size l m z =
+pub parted_none : (buffer : List ℕ) (n at size : ℕ) → at ≤ n → n ≤ length buffer → size ≡ 0 → Parted buffer buffer n at size
+parted_none buffer n at size l m z =
     let A : List ℕ = take n buffer in
     let len : length A ≡ n = length-take-le n buffer m in
     let cut : drop at (A ++ drop n buffer) ≡ drop at A ++ drop n buffer =
@@ -101,9 +101,9 @@ filled was mid is n at old new l g m p e =
     }
 
 -- the same where nothing is replaced
-pub filled-gap : (was mid is : List ℕ) (n at size : ℕ) (new : List ℕ) → at ≤ n → n ≤ length was → length new ≡ size →
+pub filled_gap : (was mid is : List ℕ) (n at size : ℕ) (new : List ℕ) → at ≤ n → n ≤ length was → length new ≡ size →
     Parted was mid n at size → is ≡ overlay at new mid → Spliced was is n at 0 new
-filled-gap was mid is n at size new l m e p q =
+filled_gap was mid is n at size new l m e p q =
     let here : at ≡ at + 0 = omega arith in
     let there : size ≡ length new - 0 = omega arith in
     filled was mid is n at 0 new (omega arith) (omega arith) m

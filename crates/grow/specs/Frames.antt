@@ -1,7 +1,7 @@
 -- Bytes inside elements inside elements.
 use Rattle.std.specs.Prelude.{ℕ, ◌+◌, List, [], ◌∷◌, ◌++◌, length}
-use Rattle.der.specs.Trees.{OneByteTag, framed, headerBytes}
-use Rattle.der.specs.Headers.{headerSize}
+use Rattle.der.specs.Trees.{OneByteTag, framed, header_bytes}
+use Rattle.der.specs.Headers.{header_size_of}
 
 -- an element of which the contents are left out, between the bytes of its siblings
 pub record Frame : Type 0 where
@@ -20,7 +20,7 @@ plug (f ∷ fs) body = plug fs (wrap f body)
 
 -- how many bytes a frame with `n` bytes of contents has, siblings and all
 abbrev pub around : Frame → ℕ → ℕ
-around f n = length f.before + (headerSize n + n + length f.after)
+around f n = length f.before + (header_size_of n + n + length f.after)
 
 -- and how many all frames together
 abbrev pub reach : List Frame → ℕ → ℕ
@@ -30,7 +30,7 @@ reach (f ∷ fs) n = reach fs (around f n)
 -- the offset where `n` bytes of contents begin
 abbrev pub start : List Frame → ℕ → ℕ
 start [] n = 0
-start (f ∷ fs) n = start fs (around f n) + length f.before + headerSize n
+start (f ∷ fs) n = start fs (around f n) + length f.before + header_size_of n
 
 -- the offsets of the tags, the innermost first
 abbrev pub places : List Frame → ℕ → List ℕ
@@ -45,7 +45,7 @@ OneByteTags (f ∷ fs) = OneByteTag f.tag × OneByteTags fs
 -- all that stands before `n` bytes of contents
 abbrev pub left : List Frame → ℕ → List ℕ
 left [] n = []
-left (f ∷ fs) n = left fs (around f n) ++ (f.before ++ headerBytes f.tag n)
+left (f ∷ fs) n = left fs (around f n) ++ (f.before ++ header_bytes f.tag n)
 
 -- all that stands behind them
 abbrev pub right : List Frame → List ℕ

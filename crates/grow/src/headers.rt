@@ -1,8 +1,8 @@
 //! The headers around contents that grow.
 ghost use Rattle.std.specs.Prelude.{◌≡◌, ℕ, ◌+◌, ◌-◌, ◌≤◌, true, List, length, take, drop, is_ok, Ok};
-ghost use Rattle.der.specs.Head.{headerOf};
-ghost use Rattle.der.specs.Headers.{headerSize};
-ghost use Rattle.der.specs.Trees.{headerBytes};
+ghost use Rattle.der.specs.Head.{header_of};
+ghost use Rattle.der.specs.Headers.{header_size_of};
+ghost use Rattle.der.specs.Trees.{header_bytes};
 ghost use Rattle.grow.specs.Frames.{Frame, reach, start, plug};
 ghost use Rattle.grow.specs.Splices.{Spliced};
 ghost use Rattle.grow.specs.Changes.{Encloses, Stale, Wrapped};
@@ -13,8 +13,8 @@ use der::{Header, header_size, read_header};
 /// The header at `place` of the file, the first `n` bytes.
 pub(crate) fn header_at(buffer: &[u8], n: usize, place: usize) -> Header
     requires within { (place ≤ n) × (n ≤ length buffer.now) }
-    requires header { is_ok (headerOf (drop place (take n buffer.now))) ≡ true }
-    ensures { headerOf (drop place (take n buffer.now)) ≡ Ok result }
+    requires header { is_ok (header_of (drop place (take n buffer.now))) ≡ true }
+    ensures { header_of (drop place (take n buffer.now)) ≡ Ok result }
 {
     match read_header(&buffer[place..n]) {
         Ok(header) => header,
@@ -25,11 +25,11 @@ pub(crate) fn header_at(buffer: &[u8], n: usize, place: usize) -> Header
 /// Writes the header at `at` anew, for `size` bytes of contents; the new length of the file.
 fn rewrite_header(buffer: &mut [u8], n: usize, at: usize, header: Header, size: usize) -> usize
     requires within { (at + header.head ≤ n) × (n ≤ length buffer.old) }
-    requires grows { header.head ≤ headerSize size }
+    requires grows { header.head ≤ header_size_of size }
     requires short { size ≤ 65535 }
-    requires room { n + (headerSize size - header.head) ≤ length buffer.old }
-    ensures length { result ≡ n + (headerSize size - header.head) }
-    ensures bytes { Spliced buffer.old buffer.new n at header.head (headerBytes header.tag size) }
+    requires room { n + (header_size_of size - header.head) ≤ length buffer.old }
+    ensures length { result ≡ n + (header_size_of size - header.head) }
+    ensures bytes { Spliced buffer.old buffer.new n at header.head (header_bytes header.tag size) }
 {
     let more = header_size(size) - header.head;
     open_gap(buffer, n, at + header.head, more);

@@ -1,8 +1,8 @@
 //! Bytes put into a buffer: a gap is opened, and then filled.
 ghost use Rattle.std.specs.Prelude.{◌≡◌, ◌+◌, ◌<◌, ◌≤◌, length};
 ghost use Rattle.std.specs.List.{flat_map};
-ghost use Rattle.der.specs.Trees.{headerBytes};
-ghost use Rattle.der.specs.Headers.{headerSize};
+ghost use Rattle.der.specs.Trees.{header_bytes};
+ghost use Rattle.der.specs.Headers.{header_size_of};
 ghost use Rattle.grow.specs.Splices.{overlay, Parted};
 
 /// Moves what stands from `at` to the end of the file, the first `n` bytes, `size` bytes to the right.
@@ -28,8 +28,8 @@ pub(crate) fn put_bytes(buffer: &mut [u8], at: usize, new: &[u8])
 /// Writes the header of an element with `size` bytes of contents over the bytes from `at` on.
 pub(crate) fn put_header(buffer: &mut [u8], at: usize, tag: u8, size: usize)
     requires short { size ≤ 65535 }
-    requires room { at + headerSize size ≤ length buffer.old }
-    ensures { buffer.new ≡ overlay at (headerBytes tag size) buffer.old }
+    requires room { at + header_size_of size ≤ length buffer.old }
+    ensures { buffer.new ≡ overlay at (header_bytes tag size) buffer.old }
 {
     if size < 128 {
         put_bytes(buffer, at, &[tag, size as u8]);

@@ -10,14 +10,14 @@ value_of d =
     (cond (nat_lt d 103) (Some (d - 97 + 10)) None)))
 
 -- a byte of two digits, in front of others
-abbrev pub withByte : Option ℕ → Option ℕ → Option (List ℕ) → Option (List ℕ)
-withByte None low bytes = None
-withByte (Some h) None bytes = None
-withByte (Some h) (Some l) None = None
-withByte (Some h) (Some l) (Some bytes) = Some ((h * 16 + l) ∷ bytes)
+abbrev pub with_byte : Option ℕ → Option ℕ → Option (List ℕ) → Option (List ℕ)
+with_byte None low bytes = None
+with_byte (Some h) None bytes = None
+with_byte (Some h) (Some l) None = None
+with_byte (Some h) (Some l) (Some bytes) = Some ((h * 16 + l) ∷ bytes)
 
 -- two digits for each byte, the high one first; none where the text is not of that kind
 abbrev pub bytes_of : List ℕ → Option (List ℕ)
 bytes_of [] = Some []
 bytes_of (h ∷ []) = None
-bytes_of (h ∷ l ∷ rest) = withByte (value_of h) (value_of l) (bytes_of rest)
+bytes_of (h ∷ l ∷ rest) = with_byte (value_of h) (value_of l) (bytes_of rest)

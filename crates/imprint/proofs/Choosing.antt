@@ -2,27 +2,27 @@
 use Rattle.std.proofs.Common.{◌≡◌, ℕ, List, Some, None, Ok, Err, Option, Result, sym, refl, ap, ◌∙◌, subst, arith}
 use Rattle.fields.specs.Placed.{mapped}
 use Rattle.content.specs.declared.contents.FileContent.{FileContent}
-use Rattle.content.specs.Few.{few-content}
+use Rattle.content.specs.Few.{few_content}
 use Rattle.content.specs.Sources.{TooMany, bytes_of}
 use Rattle.imprint.specs.declared.digests.ContentDigest.{ContentDigest}
 use Rattle.imprint.specs.declared.fault.ContentFault.{ContentFault}
 use Rattle.imprint.specs.declared.fault.ContentFault.TheVariants.{TwoContents}
 use Rattle.imprint.specs.Contents.{chosen}
-use Rattle.imprint.specs.Digests.{digestBytes, Digests, DigestsIn}
+use Rattle.imprint.specs.Digests.{digest_bytes_of, Digests, DigestsIn}
 
 -- a source never has too many bytes
-source-few : (own : Option FileContent) → TooMany (mapped bytes_of own) → ⊥
-source-few None l = elim l [ ]
-source-few (Some content) l = omega (arith, l, few-content content)
+source_few : (own : Option FileContent) → TooMany (mapped bytes_of own) → ⊥
+source_few None l = elim l [ ]
+source_few (Some content) l = omega (arith, l, few_content content)
 
 -- the answer where a source of the file's content is found and the source that is given stands for these bytes
 abbrev Reads : (List ℕ → List ℕ) → Option FileContent → Option (List ℕ) → Result ContentDigest ContentFault → Type 0
 Reads D own given r = Digests D (chosen (mapped bytes_of own) given) given r
 
 -- the file has content, and none is given
-pub own-digests : (D : List ℕ → List ℕ) (own : Option FileContent) (content : FileContent) (given : Option (List ℕ)) (d : ContentDigest) → own ≡ Some content → given ≡ None →
-    digestBytes d ≡ D (bytes_of content) → Reads D own given (Ok d)
-own-digests D own content given d o n e =
+pub own_digests : (D : List ℕ → List ℕ) (own : Option FileContent) (content : FileContent) (given : Option (List ℕ)) (d : ContentDigest) → own ≡ Some content → given ≡ None →
+    digest_bytes_of d ≡ D (bytes_of content) → Reads D own given (Ok d)
+own_digests D own content given d o n e =
     subst (λ (x : Option FileContent). Reads D x given (Ok d)) (sym o) (subst (λ (x : Option (List ℕ)). Reads D (Some content) x (Ok d)) (sym n) e)
 
 -- the file has content, and another is given
@@ -33,11 +33,11 @@ both_told D own content given bytes o n =
 
 module _ (D : List ℕ → List ℕ) (own : Option FileContent) (given : Option (List ℕ)) (r : Result ContentDigest ContentFault) (d : Reads D own given r) where
   -- the source of the file's content stands for these bytes
-  pub digests-at : (bytes : Option (List ℕ)) → mapped bytes_of own ≡ bytes → Digests D (chosen bytes given) given r
-  digests-at bytes e = subst (λ (x : Option (List ℕ)). Digests D (chosen x given) given r) e d
+  pub digests_at : (bytes : Option (List ℕ)) → mapped bytes_of own ≡ bytes → Digests D (chosen bytes given) given r
+  digests_at bytes e = subst (λ (x : Option (List ℕ)). Digests D (chosen x given) given r) e d
 
-  pub digests-in : (bytes : Option (List ℕ)) → mapped bytes_of own ≡ bytes → DigestsIn D bytes given r
-  digests-in bytes e = record {
-    few = λ _. digests-at bytes e;
-    long = λ l. absurd (source-few own (subst TooMany (sym e) l));
+  pub digests_in_lem : (bytes : Option (List ℕ)) → mapped bytes_of own ≡ bytes → DigestsIn D bytes given r
+  digests_in_lem bytes e = record {
+    few = λ _. digests_at bytes e;
+    long = λ l. absurd (source_few own (subst TooMany (sym e) l));
   }

@@ -4,8 +4,8 @@ use Rattle.std.proofs.lemmas.List.{length-append, append_assoc, take_at}
 use Rattle.std.proofs.lemmas.Slice.{drop-append-drop}
 
 -- the length of four pieces
-pub four-long : (a b c d : List ℕ) → length (a ++ (b ++ (c ++ d))) ≡ length a + (length b + (length c + length d))
-four-long a b c d =
+pub four_long : (a b c d : List ℕ) → length (a ++ (b ++ (c ++ d))) ≡ length a + (length b + (length c + length d))
+four_long a b c d =
     length-append a (b ++ (c ++ d)) ∙ ap (λ (n : ℕ). length a + n) (length-append b (c ++ d) ∙ ap (λ (n : ℕ). length b + n) (length-append c d))
 
 -- a front is written, and one piece more goes behind it

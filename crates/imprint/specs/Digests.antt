@@ -7,12 +7,12 @@ use Rattle.imprint.specs.declared.fault.ContentFault.TheVariants.{LongContent}
 use Rattle.imprint.specs.Contents.{chosen, unsuited}
 
 -- the bytes of a digest that is kept
-abbrev pub digestBytes : ContentDigest → List ℕ
-digestBytes d = take d.width d.bytes
+abbrev pub digest_bytes_of : ContentDigest → List ℕ
+digest_bytes_of d = take d.width d.bytes
 
 -- the answer is D of the content that is read, or why none is
 abbrev pub Digests : (List ℕ → List ℕ) → Option (List ℕ) → Option (List ℕ) → Result ContentDigest ContentFault → Type 0
-Digests D (Some content) given r = MatchResult r (λ d. digestBytes d ≡ D content) (λ _. ⊥)
+Digests D (Some content) given r = MatchResult r (λ d. digest_bytes_of d ≡ D content) (λ _. ⊥)
 Digests D None given r = r ≡ Err (unsuited given)
 
 -- the same of what lies where the content of a file is due; too many bytes for a source are told first

@@ -3,16 +3,16 @@ use Rattle.std.specs.Prelude.{◌≡◌, ℕ, ◌≤◌, List, length, Some, Non
 use Rattle.digest.specs.Took.{most}
 use Rattle.model.specs.Parts.{Content, detached, Signer}
 use Rattle.model.specs.Files.{File}
-use Rattle.content.specs.Contents.{contentBytes}
+use Rattle.content.specs.Contents.{content_bytes}
 use Rattle.stamp_model.specs.Covering.{input_of}
 use Rattle.stamp_model.specs.Laws.{SignerOf}
-use Rattle.imprint.specs.Contents.{contentOf}
+use Rattle.imprint.specs.Contents.{content_for}
 
 -- a detached file has the content that is given, if one is; another file has its own, unless one is given
 pub record OneContent : Type 0 where
-  pub detached-file : (given : Option (List ℕ)) → contentOf detached given ≡ given
-  pub own : (content : Content) (bytes : List ℕ) → contentBytes content ≡ Some bytes → contentOf content None ≡ Some bytes
-  pub two : (content : Content) (bytes given : List ℕ) → contentBytes content ≡ Some bytes → contentOf content (Some given) ≡ None
+  pub detached_file : (given : Option (List ℕ)) → content_for detached given ≡ given
+  pub own : (content : Content) (bytes : List ℕ) → content_bytes content ≡ Some bytes → content_for content None ≡ Some bytes
+  pub two : (content : Content) (bytes given : List ℕ) → content_bytes content ≡ Some bytes → content_for content (Some given) ≡ None
 
 -- with a digest of at most 64 bytes and an index that one header can say, an imprint input of a file can be digested
 abbrev pub NeverLong : Type 0

@@ -3,52 +3,52 @@ use Rattle.std.specs.Prelude.{◌≡◌, ℕ, List, [], ◌∷◌, ◌++◌, Non
 use Rattle.der.specs.Spans.{part}
 use Rattle.der.specs.Trees.{leaf, node, none, more}
 use Rattle.model.specs.Parts.{Attribute, issuer, Signer, detached}
-use Rattle.model.specs.Files.{File, fileBytes}
+use Rattle.model.specs.Files.{File, file_bytes}
 use Rattle.stamp_model.specs.Covering.{input_of}
-use Rattle.stamp_model.specs.Indexes.{indexBytes}
+use Rattle.stamp_model.specs.Indexes.{index_bytes}
 
 -- content-type, message-digest and signing-certificate
-abbrev sampleAttributes : List Attribute
-sampleAttributes =
+abbrev sample_attributes : List Attribute
+sample_attributes =
     record { kind = 0x2a ∷ 0x86 ∷ 0x48 ∷ 0x86 ∷ 0xf7 ∷ 0x0d ∷ 0x01 ∷ 0x09 ∷ 0x03 ∷ []; values = leaf 6 (0x2a ∷ 0x86 ∷ 0x48 ∷ 0x86 ∷ 0xf7 ∷ 0x0d ∷ 0x01 ∷ 0x07 ∷ 0x01 ∷ []) ∷ [] }
     ∷ record { kind = 0x2a ∷ 0x86 ∷ 0x48 ∷ 0x86 ∷ 0xf7 ∷ 0x0d ∷ 0x01 ∷ 0x09 ∷ 0x04 ∷ []; values = leaf 4 (0xaa ∷ []) ∷ [] }
     ∷ record { kind = 0x2a ∷ 0x86 ∷ 0x48 ∷ 0x86 ∷ 0xf7 ∷ 0x0d ∷ 0x01 ∷ 0x09 ∷ 0x10 ∷ 0x02 ∷ 0x2f ∷ []; values = node 0x30 none ∷ [] }
     ∷ []
 
-abbrev sampleSigner : Signer
-sampleSigner = record {
+abbrev sample_signer : Signer
+sample_signer = record {
   identifier = issuer none;
   digest = record { name = 0x2a ∷ []; parameters = none };
-  signed = sampleAttributes;
+  signed = sample_attributes;
   algorithm = none;
   signature = 0x55 ∷ [];
   unsigned = None;
 }
 
-abbrev sampleFile : File
-sampleFile = record {
+abbrev sample_file : File
+sample_file = record {
   version = 1;
   digests = none;
-  contentType = 0x2a ∷ 0x86 ∷ 0x48 ∷ 0x86 ∷ 0xf7 ∷ 0x0d ∷ 0x01 ∷ 0x07 ∷ 0x01 ∷ [];
+  content_type_of = 0x2a ∷ 0x86 ∷ 0x48 ∷ 0x86 ∷ 0xf7 ∷ 0x0d ∷ 0x01 ∷ 0x07 ∷ 0x01 ∷ [];
   content = detached;
   certificates = None;
   revocations = None;
-  signers = sampleSigner ∷ [];
+  signers = sample_signer ∷ [];
 }
 
 -- its content type element, which stands at 24
-abbrev sampleType : List ℕ
-sampleType = 0x06 ∷ 0x09 ∷ 0x2a ∷ 0x86 ∷ 0x48 ∷ 0x86 ∷ 0xf7 ∷ 0x0d ∷ 0x01 ∷ 0x07 ∷ 0x01 ∷ []
+abbrev sample_type : List ℕ
+sample_type = 0x06 ∷ 0x09 ∷ 0x2a ∷ 0x86 ∷ 0x48 ∷ 0x86 ∷ 0xf7 ∷ 0x0d ∷ 0x01 ∷ 0x07 ∷ 0x01 ∷ []
 
 -- the SHA-256 digest of the text abc
-abbrev sampleDigest : List ℕ
-sampleDigest =
+abbrev sample_digest : List ℕ
+sample_digest =
     0xba ∷ 0x78 ∷ 0x16 ∷ 0xbf ∷ 0x8f ∷ 0x01 ∷ 0xcf ∷ 0xea ∷ 0x41 ∷ 0x41 ∷ 0x40 ∷ 0xde ∷ 0x5d ∷ 0xae ∷ 0x22 ∷ 0x23
     ∷ 0xb0 ∷ 0x03 ∷ 0x61 ∷ 0xa3 ∷ 0x96 ∷ 0x17 ∷ 0x7a ∷ 0x9c ∷ 0xb4 ∷ 0x10 ∷ 0xff ∷ 0x61 ∷ 0xf2 ∷ 0x00 ∷ 0x15 ∷ 0xad ∷ []
 
 -- the signer's six fields, which stand from 39 to 119
-abbrev sampleFields : List ℕ
-sampleFields =
+abbrev sample_fields : List ℕ
+sample_fields =
     0x02 ∷ 0x01 ∷ 0x01 ∷ 0x30 ∷ 0x00 ∷ 0x30 ∷ 0x03 ∷ 0x06 ∷ 0x01 ∷ 0x2a ∷ 0xa0 ∷ 0x3f
     ∷ 0x30 ∷ 0x18 ∷ 0x06 ∷ 0x09 ∷ 0x2a ∷ 0x86 ∷ 0x48 ∷ 0x86 ∷ 0xf7 ∷ 0x0d ∷ 0x01 ∷ 0x09 ∷ 0x03 ∷ 0x31 ∷ 0x0b ∷ 0x06 ∷ 0x09 ∷ 0x2a ∷ 0x86 ∷ 0x48 ∷ 0x86 ∷ 0xf7 ∷ 0x0d ∷ 0x01 ∷ 0x07 ∷ 0x01
     ∷ 0x30 ∷ 0x10 ∷ 0x06 ∷ 0x09 ∷ 0x2a ∷ 0x86 ∷ 0x48 ∷ 0x86 ∷ 0xf7 ∷ 0x0d ∷ 0x01 ∷ 0x09 ∷ 0x04 ∷ 0x31 ∷ 0x03 ∷ 0x04 ∷ 0x01 ∷ 0xaa
@@ -56,12 +56,12 @@ sampleFields =
     ∷ 0x30 ∷ 0x00 ∷ 0x04 ∷ 0x01 ∷ 0x55 ∷ []
 
 -- an index of no entries
-abbrev sampleIndex : List ℕ
-sampleIndex = 0x30 ∷ 0x06 ∷ 0x30 ∷ 0x00 ∷ 0x30 ∷ 0x00 ∷ 0x30 ∷ 0x00 ∷ []
+abbrev sample_index : List ℕ
+sample_index = 0x30 ∷ 0x06 ∷ 0x30 ∷ 0x00 ∷ 0x30 ∷ 0x00 ∷ 0x30 ∷ 0x00 ∷ []
 
 abbrev pub Samples : Type 0
 Samples =
-    (part (fileBytes sampleFile) 24 35 ≡ sampleType)
-    × (part (fileBytes sampleFile) 39 119 ≡ sampleFields)
-    × (indexBytes (record { algorithm = None; certificates = []; revocations = []; attributes = [] }) ≡ sampleIndex)
-    × (input_of sampleFile sampleSigner sampleDigest sampleIndex ≡ sampleType ++ (sampleDigest ++ (sampleFields ++ sampleIndex)))
+    (part (file_bytes sample_file) 24 35 ≡ sample_type)
+    × (part (file_bytes sample_file) 39 119 ≡ sample_fields)
+    × (index_bytes (record { algorithm = None; certificates = []; revocations = []; attributes = [] }) ≡ sample_index)
+    × (input_of sample_file sample_signer sample_digest sample_index ≡ sample_type ++ (sample_digest ++ (sample_fields ++ sample_index)))

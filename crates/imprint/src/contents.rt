@@ -3,9 +3,9 @@ ghost use Rattle.std.specs.Prelude.{◌≡◌, ℕ};
 ghost use Rattle.cms.specs.declared.settings.Settings.{Settings};
 ghost use Rattle.model.specs.Files.{File};
 ghost use Rattle.message.specs.Formed.{Formed, LiesAt};
-ghost use Rattle.content.specs.Contents.{contentIn};
-ghost use Rattle.imprint.specs.Contents.{givenBytes, contentOf};
-ghost use Rattle.imprint.specs.Digests.{digestBytes, Digests, DigestsIn};
+ghost use Rattle.content.specs.Contents.{content_in};
+ghost use Rattle.imprint.specs.Contents.{given_bytes, content_for};
+ghost use Rattle.imprint.specs.Digests.{digest_bytes_of, Digests, DigestsIn};
 
 use crate::digests::ContentDigest;
 use crate::fault::ContentFault;
@@ -18,7 +18,7 @@ use digest::source::Source;
 impl ContentDigest {
     /// The bytes of the digest.
     pub fn as_slice(&self) -> &[u8]
-        ensures { result.now ≡ digestBytes self.now }
+        ensures { result.now ≡ digest_bytes_of self.now }
     {
         &self.bytes[0..self.width]
     }
@@ -26,7 +26,7 @@ impl ContentDigest {
 
 /// The digest of a source.
 fn digest_of<G: Digest, S: Source>(source: &S) -> ContentDigest
-    ensures { digestBytes result ≡ G.Digest.value (S.Source.bytes source.now) }
+    ensures { digest_bytes_of result ≡ G.Digest.value (S.Source.bytes source.now) }
 {
     let mut bytes = [0u8; 64];
     let _ = digest_source::<G, S>(source, &mut bytes);
@@ -43,9 +43,9 @@ pub fn content_digest<G: Digest, S: Source>(
     message: &Message,
     given: Option<&S>,
 ) -> Result<ContentDigest, ContentFault>
-    ensures computed { DigestsIn G.Digest.value (contentIn file.now message.now.info.content) (givenBytes S.Source.bytes given.entry) result }
+    ensures computed { DigestsIn G.Digest.value (content_in file.now message.now.info.content) (given_bytes S.Source.bytes given.entry) result }
     ensures meaning { (settings : Settings) (levels : ℕ) (f : File) → Formed settings levels file.now f → LiesAt message.now f
-        → Digests G.Digest.value (contentOf f.content (givenBytes S.Source.bytes given.entry)) (givenBytes S.Source.bytes given.entry) result }
+        → Digests G.Digest.value (content_for f.content (given_bytes S.Source.bytes given.entry)) (given_bytes S.Source.bytes given.entry) result }
 {
     let Ok(own) = content_of(file, message) else {
         return Err(ContentFault::LongContent);

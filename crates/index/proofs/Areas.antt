@@ -7,8 +7,8 @@ use Rattle.index.specs.Puts.{Put, Written}
 
 module _ {X : Type 0} where
   -- a part of the area holds the new ones
-  pub part-put : (area new part : List X) (at end : ℕ) → end ≡ at + length new → end ≤ length area → part ≡ new → Put area (put_mid at (end - at) area part) at new end
-  part-put area new part at end e l q =
+  pub part_put : (area new part : List X) (at end : ℕ) → end ≡ at + length new → end ≤ length area → part ≡ new → Put area (put_mid at (end - at) area part) at new end
+  part_put area new part at end e l q =
       let n : length part ≡ length new = ap length q in
       record {
         ends = e;
@@ -17,12 +17,12 @@ module _ {X : Type 0} where
       }
 
   -- one is set
-  pub set-put : (table : List X) (at : ℕ) (x : X) → at < length table → Put table (set table at x) at (x ∷ []) (at + 1)
-  set-put table at x l = record { ends = omega arith; front = take_more_set table at x l; rest = drop-set-lt (at + 1) table at x (omega arith) }
+  pub set_put : (table : List X) (at : ℕ) (x : X) → at < length table → Put table (set table at x) at (x ∷ []) (at + 1)
+  set_put table at x l = record { ends = omega arith; front = take_more_set table at x l; rest = drop-set-lt (at + 1) table at x (omega arith) }
 
   -- nothing is put
-  pub put-none : (area : List X) (at : ℕ) → Put area area at [] at
-  put-none area at = record { ends = omega arith; front = sym (append-nil (take at area)); rest = refl }
+  pub put_none : (area : List X) (at : ℕ) → Put area area at [] at
+  put_none area at = record { ends = omega arith; front = sym (append-nil (take at area)); rest = refl }
 
   -- some, and others behind them
   pub put_then : (was mid is xs ys : List X) (at middle end : ℕ) → Put was mid at xs middle → Put mid is middle ys end → Put was is at (xs ++ ys) end

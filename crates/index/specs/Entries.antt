@@ -4,16 +4,16 @@ use Rattle.der.specs.Trees.{Tree, encode, encodes}
 use Rattle.model.specs.Parts.{row_of}
 use Rattle.stamp_model.specs.declared.lists.ListName.{ListName}
 use Rattle.stamp_model.specs.declared.lists.ListName.TheVariants.{Certificates, Revocations, Attributes}
-use Rattle.stamp_model.specs.Indexes.{entryTree, entriesTree}
+use Rattle.stamp_model.specs.Indexes.{entry_tree, entries_tree}
 
 -- one entry for each: its digest under D
-abbrev pub entriesBytes : (List ℕ → List ℕ) → List Tree → List ℕ
-entriesBytes D ts = encodes (row_of entryTree (map D (map encode ts)))
+abbrev pub entries_bytes : (List ℕ → List ℕ) → List Tree → List ℕ
+entries_bytes D ts = encodes (row_of entry_tree (map D (map encode ts)))
 
 -- the list that holds them
-abbrev pub listTree : (List ℕ → List ℕ) → List Tree → Tree
-listTree D ts = entriesTree (map D (map encode ts))
+abbrev pub list_tree : (List ℕ → List ℕ) → List Tree → Tree
+list_tree D ts = entries_tree (map D (map encode ts))
 
 -- the three lists, as bytes
-abbrev pub listsBytes : (List ℕ → List ℕ) → (ListName → List Tree) → List ℕ
-listsBytes D trees = encode (listTree D (trees Certificates)) ++ (encode (listTree D (trees Revocations)) ++ encode (listTree D (trees Attributes)))
+abbrev pub lists_bytes : (List ℕ → List ℕ) → (ListName → List Tree) → List ℕ
+lists_bytes D trees = encode (list_tree D (trees Certificates)) ++ (encode (list_tree D (trees Revocations)) ++ encode (list_tree D (trees Attributes)))

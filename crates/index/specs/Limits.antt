@@ -2,30 +2,30 @@
 use Rattle.std.specs.Prelude.{ℕ, List, [], ◌∷◌, Some, Option}
 use Rattle.fields.specs.Rules.{or_else}
 use Rattle.model.specs.Parts.{row_of}
-use Rattle.rules.specs.Limits.{tooMany, mostEntries}
-use Rattle.rules.specs.Offsets.{inside, skip, skipMaybe}
-use Rattle.limits.specs.Past.{entriesPast}
-use Rattle.stamp_model.specs.Algorithms.{algorithmTree}
-use Rattle.stamp_model.specs.Indexes.{Index, entryTree, entriesTree, indexTree}
+use Rattle.rules.specs.Limits.{too_many_of, most_entries}
+use Rattle.rules.specs.Offsets.{inside, skip, skip_maybe}
+use Rattle.limits.specs.Past.{entries_past}
+use Rattle.stamp_model.specs.Algorithms.{algorithm_tree}
+use Rattle.stamp_model.specs.Indexes.{Index, entry_tree, entries_tree, index_tree}
 use Rattle.index.specs.declared.located.IndexParts.{IndexParts}
 
 -- where the lists begin of the index that begins at `p`
-abbrev pub listsAt : ℕ → Index → ℕ
-listsAt p x = skipMaybe algorithmTree (inside p (indexTree x)) x.algorithm
+abbrev pub lists_at : ℕ → Index → ℕ
+lists_at p x = skip_maybe algorithm_tree (inside p (index_tree x)) x.algorithm
 
 -- in a list whose field begins at `p`
-abbrev pub tooManyEntries : ℕ → List (List ℕ) → Option ℕ
-tooManyEntries p entries = tooMany mostEntries (inside p (entriesTree entries)) (row_of entryTree entries)
+abbrev pub too_many_entries : ℕ → List (List ℕ) → Option ℕ
+too_many_entries p entries = too_many_of most_entries (inside p (entries_tree entries)) (row_of entry_tree entries)
 
 -- in the lists of the index that begins at `p`, in reading order
-abbrev pub firstTooManyEntry : ℕ → Index → Option ℕ
-firstTooManyEntry p x =
-    or_else (tooManyEntries (listsAt p x) x.certificates)
-    (or_else (tooManyEntries (skip (listsAt p x) (entriesTree x.certificates ∷ [])) x.revocations)
-    (tooManyEntries (skip (listsAt p x) (entriesTree x.certificates ∷ entriesTree x.revocations ∷ [])) x.attributes))
+abbrev pub first_too_many_entry_of : ℕ → Index → Option ℕ
+first_too_many_entry_of p x =
+    or_else (too_many_entries (lists_at p x) x.certificates)
+    (or_else (too_many_entries (skip (lists_at p x) (entries_tree x.certificates ∷ [])) x.revocations)
+    (too_many_entries (skip (lists_at p x) (entries_tree x.certificates ∷ entries_tree x.revocations ∷ [])) x.attributes))
 
 -- the same, read where the record says that the lists lie
-abbrev pub firstPastEntry : List ℕ → IndexParts → Option ℕ
-firstPastEntry file parts =
-    or_else (entriesPast file (Some parts.certificates))
-    (or_else (entriesPast file (Some parts.revocations)) (entriesPast file (Some parts.attributes)))
+abbrev pub first_past_entry : List ℕ → IndexParts → Option ℕ
+first_past_entry file parts =
+    or_else (entries_past file (Some parts.certificates))
+    (or_else (entries_past file (Some parts.revocations)) (entries_past file (Some parts.attributes)))

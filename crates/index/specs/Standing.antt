@@ -3,11 +3,11 @@ use Rattle.std.specs.Prelude.{◌≡◌, ℕ, ◌≤◌, List, map, length, Some
 use Rattle.der.specs.Spans.{part}
 use Rattle.der.specs.Trees.{Tree, Valids, encode, encodes}
 use Rattle.fields.specs.declared.located.Entries.{Entries}
-use Rattle.model.specs.Parts.{row, attributeTree, Signer}
+use Rattle.model.specs.Parts.{row, attribute_tree, Signer}
 use Rattle.model.specs.Files.{File}
 use Rattle.stamp_model.specs.declared.lists.ListName.{ListName}
 use Rattle.stamp_model.specs.declared.lists.ListName.TheVariants.{Certificates, Revocations, Attributes}
-use Rattle.stamp_model.specs.Indexes.{Index, entriesOf, entryTree}
+use Rattle.stamp_model.specs.Indexes.{Index, entries_for, entry_tree}
 use Rattle.stamp_model.specs.Covering.{given}
 use Rattle.index.specs.declared.located.IndexParts.{IndexParts}
 use Rattle.index.specs.declared.elements.Elements.{Elements}
@@ -23,38 +23,38 @@ pub record Stand (file : List ℕ) (elements : Elements) (ts : List Tree) : Type
   pub count : elements.count ≡ length ts
 
 -- the elements of a list
-abbrev pub elementsFor : ElementLists → ListName → Elements
-elementsFor lists Certificates = lists.certificates
-elementsFor lists Revocations = lists.revocations
-elementsFor lists Attributes = lists.attributes
+abbrev pub elements_for : ElementLists → ListName → Elements
+elements_for lists Certificates = lists.certificates
+elements_for lists Revocations = lists.revocations
+elements_for lists Attributes = lists.attributes
 
 -- list by list
 abbrev pub StandLists : List ℕ → ElementLists → (ListName → List Tree) → Type 0
-StandLists file lists trees = (list : ListName) → Stand file (elementsFor lists list) (trees list)
+StandLists file lists trees = (list : ListName) → Stand file (elements_for lists list) (trees list)
 
 -- their bytes, list by list
-abbrev pub encodedBy : (ListName → List Tree) → ListName → List (List ℕ)
-encodedBy trees list = map encode (trees list)
+abbrev pub encoded_by : (ListName → List Tree) → ListName → List (List ℕ)
+encoded_by trees list = map encode (trees list)
 
 -- the elements of the lists of a file and one of its signers, as trees
-abbrev pub treesOf : File → Signer → ListName → List Tree
-treesOf f s Certificates = given f.certificates
-treesOf f s Revocations = given f.revocations
-treesOf f s Attributes = map attributeTree (given s.unsigned)
+abbrev pub trees_of : File → Signer → ListName → List Tree
+trees_of f s Certificates = given f.certificates
+trees_of f s Revocations = given f.revocations
+trees_of f s Attributes = map attribute_tree (given s.unsigned)
 
 -- the elements in a field; where it is not there, none
-abbrev pub elementsIn : Option Entries → Elements
-elementsIn None = record { at = 0; end = 0; count = 0 }
-elementsIn (Some e) = record { at = e.field.body; end = e.field.end; count = e.count }
+abbrev pub elements_in : Option Entries → Elements
+elements_in None = record { at = 0; end = 0; count = 0 }
+elements_in (Some e) = record { at = e.field.body; end = e.field.end; count = e.count }
 
 -- the entries of an index, where its record says that they lie
-abbrev pub entryLists : IndexParts → ElementLists
-entryLists parts = record {
-  certificates = elementsIn (Some parts.certificates);
-  revocations = elementsIn (Some parts.revocations);
-  attributes = elementsIn (Some parts.attributes);
+abbrev pub entry_lists : IndexParts → ElementLists
+entry_lists parts = record {
+  certificates = elements_in (Some parts.certificates);
+  revocations = elements_in (Some parts.revocations);
+  attributes = elements_in (Some parts.attributes);
 }
 
 -- and the elements that they are
-abbrev pub entryTrees : Index → ListName → List Tree
-entryTrees x list = map entryTree (entriesOf x list)
+abbrev pub entry_trees : Index → ListName → List Tree
+entry_trees x list = map entry_tree (entries_for x list)

@@ -1,6 +1,6 @@
 //! Algorithms.
-ghost use Rattle.fields.specs.Reads.{Reads, ReadsMaybe, spanStop};
-ghost use Rattle.index.specs.Records.{nullOf, algorithmOf, algorithmStop};
+ghost use Rattle.fields.specs.Reads.{Reads, ReadsMaybe, span_stop};
+ghost use Rattle.index.specs.Records.{null_of, algorithm_of, algorithm_stop};
 
 use crate::located::AlgorithmParts;
 use der::{Reader, Span};
@@ -8,7 +8,7 @@ use fields::{enter, expect, finish, read_optional};
 
 /// The empty parameters, if an element tagged 05 comes next.
 fn read_null(reader: &mut Reader) -> Result<Option<Span>, usize>
-    ensures { ReadsMaybe nullOf spanStop reader.old reader.new result }
+    ensures { ReadsMaybe null_of span_stop reader.old reader.new result }
 {
     match read_optional(reader, 0x05) {
         None => Ok(None),
@@ -19,7 +19,7 @@ fn read_null(reader: &mut Reader) -> Result<Option<Span>, usize>
 
 /// An algorithm: an identifier, and optionally the empty parameters 05 00.
 pub fn read_algorithm(reader: &mut Reader) -> Result<AlgorithmParts, usize>
-    ensures { Reads algorithmOf algorithmStop reader.old reader.new result }
+    ensures { Reads algorithm_of algorithm_stop reader.old reader.new result }
 {
     let whole = expect(reader, 0x30)?;
     let mut inside = enter(reader, whole);

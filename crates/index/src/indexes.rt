@@ -2,10 +2,10 @@
 ghost use Rattle.std.specs.Prelude.{◌≡◌, ℕ, ◌≤◌, List, ◌++◌, length, IfOk};
 ghost use Rattle.der.specs.Spans.{part};
 ghost use Rattle.der.specs.Trees.{Tree, Valid, encode};
-ghost use Rattle.fields.specs.Reads.{Reads, ReadsMaybe, entriesStop, broke};
-ghost use Rattle.index.specs.Grammar.{indexBreak};
+ghost use Rattle.fields.specs.Reads.{Reads, ReadsMaybe, entries_stop, broke};
+ghost use Rattle.index.specs.Grammar.{index_break};
 ghost use Rattle.index.specs.Places.{index_at};
-ghost use Rattle.index.specs.Records.{algorithmStop, hasAlgorithm, maybeAlgorithm, listAt, indexIn, indexPartsOf};
+ghost use Rattle.index.specs.Records.{algorithm_stop, has_algorithm_of, maybe_algorithm, list_at, index_in, index_parts_of};
 
 use crate::algorithms::read_algorithm;
 use crate::located::{AlgorithmParts, IndexParts};
@@ -14,7 +14,7 @@ use fields::{Entries, Octets, count, enter, expect, finish};
 
 /// Whether the next element stands for an algorithm: it is tagged 30, and its first element 06.
 fn has_algorithm(reader: &Reader) -> bool
-    ensures { result ≡ hasAlgorithm reader.now.bytes.now reader.now.at reader.now.end }
+    ensures { result ≡ has_algorithm_of reader.now.bytes.now reader.now.at reader.now.end }
 {
     let mut ahead = *reader;
     let Ok(first) = expect(&mut ahead, 0x30) else {
@@ -29,7 +29,7 @@ fn has_algorithm(reader: &Reader) -> bool
 
 /// The algorithm, if one comes next.
 fn read_maybe_algorithm(reader: &mut Reader) -> Result<Option<AlgorithmParts>, usize>
-    ensures { ReadsMaybe maybeAlgorithm algorithmStop reader.old reader.new result }
+    ensures { ReadsMaybe maybe_algorithm algorithm_stop reader.old reader.new result }
 {
     if !has_algorithm(reader) {
         return Ok(None);
@@ -40,7 +40,7 @@ fn read_maybe_algorithm(reader: &mut Reader) -> Result<Option<AlgorithmParts>, u
 
 /// A list of entries: any number.
 fn read_list(reader: &mut Reader) -> Result<Entries, usize>
-    ensures { Reads listAt entriesStop reader.old reader.new result }
+    ensures { Reads list_at entries_stop reader.old reader.new result }
 {
     let field = expect(reader, 0x30)?;
     let count = count::<Octets>(enter(reader, field))?;
@@ -49,7 +49,7 @@ fn read_list(reader: &mut Reader) -> Result<Entries, usize>
 
 /// The fields of an index.
 fn read_fields(reader: &Reader, whole: Span) -> Result<IndexParts, usize>
-    ensures { result ≡ indexIn reader.now.bytes.now whole }
+    ensures { result ≡ index_in reader.now.bytes.now whole }
 {
     let mut inside = enter(reader, whole);
     let algorithm = read_maybe_algorithm(&mut inside)?;
@@ -68,7 +68,7 @@ fn read_fields(reader: &Reader, whole: Span) -> Result<IndexParts, usize>
 
 /// The index that stands from the reader's offset to its end, or the place of the first break.
 fn read_parts(reader: Reader) -> Result<IndexParts, usize>
-    ensures { result ≡ indexPartsOf reader.entry.bytes.now reader.entry.at reader.entry.end }
+    ensures { result ≡ index_parts_of reader.entry.bytes.now reader.entry.at reader.entry.end }
 {
     let mut outside = reader;
     let whole = expect(&mut outside, 0x30)?;
@@ -80,10 +80,10 @@ fn read_parts(reader: Reader) -> Result<IndexParts, usize>
 /// Where the parts lie of the index that stands from the reader's offset to its end,
 /// or the place of the first field that is missing, wrong or surplus.
 pub fn read_index(reader: Reader) -> Result<IndexParts, usize>
-    ensures computed { result ≡ indexPartsOf reader.entry.bytes.now reader.entry.at reader.entry.end }
+    ensures computed { result ≡ index_parts_of reader.entry.bytes.now reader.entry.at reader.entry.end }
     ensures meaning { (t : Tree) (surplus : List ℕ) (levels : ℕ) → Valid t levels → reader.entry.end ≤ length reader.entry.bytes.now
         → encode t ++ surplus ≡ part reader.entry.bytes.now reader.entry.at reader.entry.end
-        → broke result ≡ indexBreak reader.entry.at t surplus }
+        → broke result ≡ index_break reader.entry.at t surplus }
     ensures places { (t : Tree) (surplus : List ℕ) (levels : ℕ) → Valid t levels → reader.entry.end ≤ length reader.entry.bytes.now
         → encode t ++ surplus ≡ part reader.entry.bytes.now reader.entry.at reader.entry.end
         → IfOk result (λ parts. parts ≡ index_at reader.entry.at t) }

@@ -2,9 +2,9 @@
 ghost use Rattle.std.specs.Prelude.{◌≡◌, ℕ, ◌≤◌, length, Some};
 ghost use Rattle.der.specs.Spans.{part};
 ghost use Rattle.der.specs.Trees.{Valid};
-ghost use Rattle.limits.specs.Past.{entriesPast};
-ghost use Rattle.stamp_model.specs.Indexes.{Index, indexTree, indexBytes};
-ghost use Rattle.index.specs.Limits.{firstTooManyEntry, firstPastEntry};
+ghost use Rattle.limits.specs.Past.{entries_past};
+ghost use Rattle.stamp_model.specs.Indexes.{Index, index_tree, index_bytes};
+ghost use Rattle.index.specs.Limits.{first_too_many_entry_of, first_past_entry};
 ghost use Rattle.index.specs.Places.{index_at};
 
 use crate::located::IndexParts;
@@ -17,7 +17,7 @@ const MOST_ENTRIES: usize = 64;
 
 /// The place of the first entry too many of a list.
 fn find_in_list(file: &[u8], entries: Entries) -> Option<usize>
-    ensures { result ≡ entriesPast file.now (Some entries) }
+    ensures { result ≡ entries_past file.now (Some entries) }
 {
     let inside = Reader {
         bytes: file,
@@ -29,7 +29,7 @@ fn find_in_list(file: &[u8], entries: Entries) -> Option<usize>
 
 /// The place of the first entry too many in the lists, in reading order.
 fn find_in_lists(file: &[u8], parts: &IndexParts) -> Option<usize>
-    ensures { result ≡ firstPastEntry file.now parts.now }
+    ensures { result ≡ first_past_entry file.now parts.now }
 {
     if let Some(place) = find_in_list(file, parts.certificates) {
         return Some(place);
@@ -43,10 +43,10 @@ fn find_in_lists(file: &[u8], parts: &IndexParts) -> Option<usize>
 /// The place of the first entry too many of an index, in reading order; none where every list has at most 64.
 /// `parts` says where the lists lie.
 pub fn first_too_many_entry(file: &[u8], parts: &IndexParts) -> Option<usize>
-    ensures computed { result ≡ firstPastEntry file.now parts.now }
-    ensures meaning { (x : Index) (levels at end : ℕ) → Valid (indexTree x) levels → end ≤ length file.now
-        → part file.now at end ≡ indexBytes x → parts.now ≡ index_at at (indexTree x)
-        → result ≡ firstTooManyEntry at x }
+    ensures computed { result ≡ first_past_entry file.now parts.now }
+    ensures meaning { (x : Index) (levels at end : ℕ) → Valid (index_tree x) levels → end ≤ length file.now
+        → part file.now at end ≡ index_bytes x → parts.now ≡ index_at at (index_tree x)
+        → result ≡ first_too_many_entry_of at x }
 {
     find_in_lists(file, parts)
 }

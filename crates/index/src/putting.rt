@@ -1,11 +1,11 @@
 //! Bytes, headers and digests written one behind another into an area.
 ghost use Rattle.std.specs.Prelude.{◌≡◌, ℕ, ◌+◌, ◌≤◌, length};
-ghost use Rattle.der.specs.Headers.{Sayable, headerSize};
-ghost use Rattle.der.specs.Trees.{headerBytes, encode};
+ghost use Rattle.der.specs.Headers.{Sayable, header_size_of};
+ghost use Rattle.der.specs.Trees.{header_bytes, encode};
 ghost use Rattle.digest.specs.Took.{most};
-ghost use Rattle.stamp_model.specs.Indexes.{entryTree};
+ghost use Rattle.stamp_model.specs.Indexes.{entry_tree};
 ghost use Rattle.index.specs.Puts.{Put};
-ghost use Rattle.index.specs.Sizes.{framedSize};
+ghost use Rattle.index.specs.Sizes.{framed_size_of};
 
 use der::HeaderBytes;
 use digest::digesting::digest_bytes;
@@ -23,8 +23,8 @@ pub(crate) fn put(area: &mut [u8], at: usize, bytes: &[u8]) -> usize
 
 /// Puts the header of an element with so many bytes of contents.
 pub(crate) fn put_header(area: &mut [u8], at: usize, tag: u8, size: usize) -> usize
-    requires { (Sayable tag size) × (at + headerSize size ≤ length area.old) }
-    ensures { Put area.old area.new at (headerBytes tag size) result }
+    requires { (Sayable tag size) × (at + header_size_of size ≤ length area.old) }
+    ensures { Put area.old area.new at (header_bytes tag size) result }
 {
     let Some(header) = HeaderBytes::new(tag, size) else {
         return at;
@@ -45,9 +45,9 @@ pub fn put_digest<G: Digest>(area: &mut [u8], at: usize, bytes: &[u8]) -> usize
 
 /// Puts the entry of an element: its digest as an octet string.
 pub(crate) fn put_entry<G: Digest>(area: &mut [u8], at: usize, element: &[u8]) -> usize
-    requires { at + framedSize size ≤ length area.old }
-    ensures ends { result ≡ at + framedSize size }
-    ensures entry { length element.now ≤ most → Put area.old area.new at (encode (entryTree (value element.now))) result }
+    requires { at + framed_size_of size ≤ length area.old }
+    ensures ends { result ≡ at + framed_size_of size }
+    ensures entry { length element.now ≤ most → Put area.old area.new at (encode (entry_tree (value element.now))) result }
 {
     let body = put_header(area, at, 0x04, G::width());
     put_digest::<G>(area, body, element)

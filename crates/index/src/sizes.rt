@@ -3,9 +3,9 @@ ghost use Rattle.std.specs.Prelude.{◌≡◌, ℕ, ◌+◌, ◌*◌, ◌≤◌,
 ghost use Rattle.std.specs.Str.{bytes_eq};
 ghost use Rattle.stamp_model.specs.declared.lists.ListName.{ListName};
 ghost use Rattle.stamp_model.specs.declared.lists.ListName.TheVariants.{Certificates, Revocations, Attributes};
-ghost use Rattle.stamp_model.specs.Algorithms.{sha256Name};
-ghost use Rattle.stamp_model.specs.Indexes.{indexBytes, index_of};
-ghost use Rattle.index.specs.Sizes.{framedSize, listSize, algorithmSize, contentsSize, indexSize};
+ghost use Rattle.stamp_model.specs.Algorithms.{sha256_name};
+ghost use Rattle.stamp_model.specs.Indexes.{index_bytes, index_of};
+ghost use Rattle.index.specs.Sizes.{framed_size_of, list_size_of, algorithm_size_of, contents_size_of, index_size};
 
 use der::header_size;
 use digest::interface::Digest;
@@ -16,7 +16,7 @@ static SHA256: [u8; 9] = [0x60, 0x86, 0x48, 0x01, 0x65, 0x03, 0x04, 0x02, 0x01];
 
 /// Whether an index that names this digest leaves its name out.
 pub(crate) fn is_left_out(name: &[u8]) -> bool
-    ensures { result ≡ bytes_eq name.now sha256Name }
+    ensures { result ≡ bytes_eq name.now sha256_name }
 {
     same(name, &SHA256)
 }
@@ -24,7 +24,7 @@ pub(crate) fn is_left_out(name: &[u8]) -> bool
 /// An element with so many bytes of contents.
 pub(crate) fn framed_size(size: usize) -> usize
     requires { size ≤ 65535 }
-    ensures value { result ≡ framedSize size }
+    ensures value { result ≡ framed_size_of size }
     ensures few { result ≤ size + 4 }
 {
     header_size(size) + size
@@ -33,7 +33,7 @@ pub(crate) fn framed_size(size: usize) -> usize
 /// So many entries.
 pub(crate) fn entries_size<G: Digest>(count: usize) -> usize
     requires { count ≤ 64 }
-    ensures value { result ≡ count * framedSize size }
+    ensures value { result ≡ count * framed_size_of size }
     ensures few { result ≤ 4352 }
 {
     count * framed_size(G::width())
@@ -42,7 +42,7 @@ pub(crate) fn entries_size<G: Digest>(count: usize) -> usize
 /// A list of so many entries.
 fn list_size<G: Digest>(count: usize) -> usize
     requires { count ≤ 64 }
-    ensures value { result ≡ listSize size count }
+    ensures value { result ≡ list_size_of size count }
     ensures few { result ≤ 4356 }
 {
     framed_size(entries_size::<G>(count))
@@ -51,7 +51,7 @@ fn list_size<G: Digest>(count: usize) -> usize
 /// The algorithm for a digest of this name.
 fn algorithm_size(name: &[u8]) -> usize
     requires { length name.now ≤ 16 }
-    ensures value { result ≡ algorithmSize name.now }
+    ensures value { result ≡ algorithm_size_of name.now }
     ensures few { result ≤ 24 }
 {
     if is_left_out(name) {
@@ -67,7 +67,7 @@ pub(crate) fn contents_size<G: Digest>(
     attributes: usize,
 ) -> usize
     requires { (certificates ≤ 64) × ((revocations ≤ 64) × (attributes ≤ 64)) }
-    ensures value { result ≡ contentsSize size oid certificates revocations attributes }
+    ensures value { result ≡ contents_size_of size oid certificates revocations attributes }
     ensures few { result ≤ 13092 }
 {
     let lists = list_size::<G>(certificates)
@@ -78,10 +78,10 @@ pub(crate) fn contents_size<G: Digest>(
 /// How many bytes the index has of so many elements in each list.
 pub fn index_length<G: Digest>(certificates: usize, revocations: usize, attributes: usize) -> usize
     requires { (certificates ≤ 64) × ((revocations ≤ 64) × (attributes ≤ 64)) }
-    ensures computed { result ≡ indexSize size oid certificates revocations attributes }
+    ensures computed { result ≡ index_size size oid certificates revocations attributes }
     ensures meaning { (elements : ListName → List (List ℕ))
         → length (elements Certificates) ≡ certificates → length (elements Revocations) ≡ revocations → length (elements Attributes) ≡ attributes
-        → result ≡ length (indexBytes (index_of value oid elements)) }
+        → result ≡ length (index_bytes (index_of value oid elements)) }
 {
     framed_size(contents_size::<G>(certificates, revocations, attributes))
 }

@@ -3,12 +3,12 @@ ghost use Rattle.std.specs.Prelude.{◌≡◌, ℕ, ◌+◌, ◌*◌, ◌≤◌,
 ghost use Rattle.der.specs.Trees.{Tree, encode, encodes, none};
 ghost use Rattle.model.specs.Parts.{maybe};
 ghost use Rattle.stamp_model.specs.declared.lists.ListName.{ListName};
-ghost use Rattle.stamp_model.specs.Algorithms.{algorithmTree};
-ghost use Rattle.stamp_model.specs.Indexes.{writtenFor, indexBytes, index_of};
-ghost use Rattle.index.specs.Entries.{entriesBytes, listTree, listsBytes};
+ghost use Rattle.stamp_model.specs.Algorithms.{algorithm_tree};
+ghost use Rattle.stamp_model.specs.Indexes.{written_for, index_bytes, index_of};
+ghost use Rattle.index.specs.Entries.{entries_bytes, list_tree, lists_bytes};
 ghost use Rattle.index.specs.Puts.{Put, Written};
-ghost use Rattle.index.specs.Sizes.{framedSize, listSize, algorithmSize, indexSize};
-ghost use Rattle.index.specs.Standing.{Stand, StandLists, encodedBy};
+ghost use Rattle.index.specs.Sizes.{framed_size_of, list_size_of, algorithm_size_of, index_size};
+ghost use Rattle.index.specs.Standing.{Stand, StandLists, encoded_by};
 
 use crate::elements::{ElementLists, Elements};
 use crate::putting::{put, put_entry, put_header};
@@ -18,9 +18,9 @@ use digest::interface::Digest;
 
 /// Puts one entry for each element.
 fn put_entries<G: Digest>(file: &[u8], elements: Elements, area: &mut [u8], at: usize) -> usize
-    requires { at + elements.count * framedSize size ≤ length area.old }
-    ensures few { result ≤ at + elements.count * framedSize size }
-    ensures entries { (ts : List Tree) → Stand file.now elements ts → Put area.old area.new at (entriesBytes value ts) result }
+    requires { at + elements.count * framed_size_of size ≤ length area.old }
+    ensures few { result ≤ at + elements.count * framed_size_of size }
+    ensures entries { (ts : List Tree) → Stand file.now elements ts → Put area.old area.new at (entries_bytes value ts) result }
 {
     let mut reader = Reader {
         bytes: file,
@@ -39,9 +39,9 @@ fn put_entries<G: Digest>(file: &[u8], elements: Elements, area: &mut [u8], at: 
 
 /// Puts a list: one entry for each element.
 fn put_list<G: Digest>(file: &[u8], elements: Elements, area: &mut [u8], at: usize) -> usize
-    requires { (elements.count ≤ 64) × (at + listSize size elements.count ≤ length area.old) }
-    ensures few { result ≤ at + listSize size elements.count }
-    ensures list { (ts : List Tree) → Stand file.now elements ts → Put area.old area.new at (encode (listTree value ts)) result }
+    requires { (elements.count ≤ 64) × (at + list_size_of size elements.count ≤ length area.old) }
+    ensures few { result ≤ at + list_size_of size elements.count }
+    ensures list { (ts : List Tree) → Stand file.now elements ts → Put area.old area.new at (encode (list_tree value ts)) result }
 {
     let body = put_header(area, at, 0x30, entries_size::<G>(elements.count));
     put_entries::<G>(file, elements, area, body)
@@ -49,8 +49,8 @@ fn put_list<G: Digest>(file: &[u8], elements: Elements, area: &mut [u8], at: usi
 
 /// Puts the algorithm for a digest of this name: nothing where the name is left out.
 fn put_algorithm(area: &mut [u8], at: usize, name: &[u8]) -> usize
-    requires { (length name.now ≤ 16) × (at + algorithmSize name.now ≤ length area.old) }
-    ensures { Put area.old area.new at (encodes (maybe algorithmTree (writtenFor name.now) none)) result }
+    requires { (length name.now ≤ 16) × (at + algorithm_size_of name.now ≤ length area.old) }
+    ensures { Put area.old area.new at (encodes (maybe algorithm_tree (written_for name.now) none)) result }
 {
     if is_left_out(name) {
         return at;
@@ -63,8 +63,8 @@ fn put_algorithm(area: &mut [u8], at: usize, name: &[u8]) -> usize
 /// Puts the three lists.
 fn put_lists<G: Digest>(file: &[u8], lists: ElementLists, area: &mut [u8], at: usize) -> usize
     requires few { (lists.certificates.count ≤ 64) × ((lists.revocations.count ≤ 64) × (lists.attributes.count ≤ 64)) }
-    requires room { at + (listSize size lists.certificates.count + (listSize size lists.revocations.count + listSize size lists.attributes.count)) ≤ length area.old }
-    ensures { (trees : ListName → List Tree) → StandLists file.now lists trees → Put area.old area.new at (listsBytes value trees) result }
+    requires room { at + (list_size_of size lists.certificates.count + (list_size_of size lists.revocations.count + list_size_of size lists.attributes.count)) ≤ length area.old }
+    ensures { (trees : ListName → List Tree) → StandLists file.now lists trees → Put area.old area.new at (lists_bytes value trees) result }
 {
     let revocations = put_list::<G>(file, lists.certificates, area, at);
     let attributes = put_list::<G>(file, lists.revocations, area, revocations);
@@ -75,9 +75,9 @@ fn put_lists<G: Digest>(file: &[u8], lists: ElementLists, area: &mut [u8], at: u
 /// as many as `index_length` tells, for which the area has room. What is behind them stays.
 pub fn write_index<G: Digest>(file: &[u8], lists: ElementLists, area: &mut [u8]) -> usize
     requires few { (lists.certificates.count ≤ 64) × ((lists.revocations.count ≤ 64) × (lists.attributes.count ≤ 64)) }
-    requires room { indexSize size oid lists.certificates.count lists.revocations.count lists.attributes.count ≤ length area.old }
+    requires room { index_size size oid lists.certificates.count lists.revocations.count lists.attributes.count ≤ length area.old }
     ensures { (trees : ListName → List Tree) → StandLists file.now lists trees
-        → Written (indexBytes (index_of value oid (encodedBy trees))) area.old area.new result }
+        → Written (index_bytes (index_of value oid (encoded_by trees))) area.old area.new result }
 {
     let contents = contents_size::<G>(
         lists.certificates.count,

@@ -2,7 +2,7 @@
 ghost use Rattle.std.specs.Prelude.{◌≡◌, ℕ, ◌≤◌, length};
 ghost use Rattle.der.specs.Spans.{part};
 ghost use Rattle.der.specs.Trees.{Forest, Valids, encodes};
-ghost use Rattle.rules.specs.Limits.{tooMany};
+ghost use Rattle.rules.specs.Limits.{too_many_of};
 ghost use Rattle.limits.specs.Past.{left_of, past_of};
 
 use der::Reader;
@@ -37,7 +37,7 @@ pub fn too_many(inside: Reader, limit: usize) -> Option<usize>
     ensures computed { result ≡ past_of limit inside.entry.bytes.now inside.entry.at inside.entry.end }
     ensures meaning { (ts : Forest) (levels : ℕ) → Valids ts levels → inside.entry.at ≤ inside.entry.end → inside.entry.end ≤ length inside.entry.bytes.now
         → part inside.entry.bytes.now inside.entry.at inside.entry.end ≡ encodes ts
-        → result ≡ tooMany limit inside.entry.at ts }
+        → result ≡ too_many_of limit inside.entry.at ts }
 {
     find_past(inside, limit)
 }

@@ -2,11 +2,11 @@
 ghost use Rattle.std.specs.Prelude.{◌≡◌, ℕ};
 ghost use Rattle.der.specs.Trees.{Valid};
 ghost use Rattle.cms.specs.declared.settings.Settings.{Settings};
-ghost use Rattle.cms.specs.Places.{messageAt};
-ghost use Rattle.model.specs.Files.{File, fileTree, fileBytes};
+ghost use Rattle.cms.specs.Places.{message_at};
+ghost use Rattle.model.specs.Files.{File, file_tree, file_bytes};
 ghost use Rattle.model.specs.Shapes.{Shape};
-ghost use Rattle.rules.specs.Limits.{firstTooMany};
-ghost use Rattle.limits.specs.Past.{entriesPast, attributesPast, signersPast, firstPast};
+ghost use Rattle.rules.specs.Limits.{first_too_many_of};
+ghost use Rattle.limits.specs.Past.{entries_past, attributes_past, signers_past, first_past};
 
 use crate::counted::{find_past, place_left};
 use cms::{Message, Signer, read_signer};
@@ -21,7 +21,7 @@ const MOST_SIGNERS: usize = 8;
 
 /// The place of the first entry too many of a list; none where its field is not there.
 fn find_in_list(file: &[u8], list: Option<Entries>) -> Option<usize>
-    ensures { result ≡ entriesPast file.now list }
+    ensures { result ≡ entries_past file.now list }
 {
     let Some(entries) = list else {
         return None;
@@ -36,7 +36,7 @@ fn find_in_list(file: &[u8], list: Option<Entries>) -> Option<usize>
 
 /// The place of the first attribute too many of a signer.
 fn find_in_signer(file: &[u8], signer: Signer) -> Option<usize>
-    ensures { result ≡ attributesPast file.now signer }
+    ensures { result ≡ attributes_past file.now signer }
 {
     match find_in_list(file, Some(signer.signed)) {
         Some(place) => Some(place),
@@ -46,7 +46,7 @@ fn find_in_signer(file: &[u8], signer: Signer) -> Option<usize>
 
 /// The place of the first signer past the limit, or of the first attribute too many of one before it.
 fn find_in_signers(inside: Reader, limit: usize) -> Option<usize>
-    ensures { result ≡ signersPast limit inside.entry.bytes.now inside.entry.at inside.entry.end }
+    ensures { result ≡ signers_past limit inside.entry.bytes.now inside.entry.at inside.entry.end }
 {
     let mut reader = inside;
     for _ in 0..limit {
@@ -62,7 +62,7 @@ fn find_in_signers(inside: Reader, limit: usize) -> Option<usize>
 
 /// The place of the first element too many in the lists of a message, in reading order.
 fn find_in_message(file: &[u8], message: &Message) -> Option<usize>
-    ensures { result ≡ firstPast file.now message.now }
+    ensures { result ≡ first_past file.now message.now }
 {
     if let Some(place) = find_in_list(file, message.certificates) {
         return Some(place);
@@ -81,10 +81,10 @@ fn find_in_message(file: &[u8], message: &Message) -> Option<usize>
 /// The place of the first element too many of a file, in reading order; none where every list keeps its limit.
 /// `message` says where the lists lie.
 pub fn first_too_many(file: &[u8], message: &Message) -> Option<usize>
-    ensures computed { result ≡ firstPast file.now message.now }
-    ensures meaning { (settings : Settings) (f : File) (levels : ℕ) → Shape settings f → Valid (fileTree f) levels
-        → file.now ≡ fileBytes f → message.now ≡ messageAt 0 (fileTree f)
-        → result ≡ firstTooMany f }
+    ensures computed { result ≡ first_past file.now message.now }
+    ensures meaning { (settings : Settings) (f : File) (levels : ℕ) → Shape settings f → Valid (file_tree f) levels
+        → file.now ≡ file_bytes f → message.now ≡ message_at 0 (file_tree f)
+        → result ≡ first_too_many_of f }
 {
     find_in_message(file, message)
 }

@@ -3,20 +3,20 @@ use Rattle.std.proofs.Common.{◌≡◌, ℕ, ◌≤◌, List, [], ◌++◌, len
 use Rattle.std.proofs.lemmas.List.{append-nil, take_all}
 use Rattle.der.specs.Trees.{Tree, Forest, none, more, Starts, Forms, Valid, Valids, encode, encodes}
 use Rattle.listing.specs.declared.line.Line.{Line}
-use Rattle.listing.specs.Listed.{lines_of, linesIn}
+use Rattle.listing.specs.Listed.{lines_of, lines_in}
 use Rattle.listing.specs.Told.{Sized, Whole}
 
 pub whole_of : (bs : List ℕ) (n : ℕ) → Sized bs → Starts 32 bs n → length bs ≤ n → (t : Tree) × Whole bs t
 whole_of bs n z s l = (s.0, (z, s.1, s.2 ∙ take_all n bs l))
 
-pub forms-of : (bs : List ℕ) (n : ℕ) → Starts 32 bs n → length bs ≤ n → Forms 32 bs
-forms-of bs n s l = (more s.0 none, (s.1, tt), append-nil (encode s.0) ∙ s.2 ∙ take_all n bs l)
+pub forms_of : (bs : List ℕ) (n : ℕ) → Starts 32 bs n → length bs ≤ n → Forms 32 bs
+forms_of bs n s l = (more s.0 none, (s.1, tt), append-nil (encode s.0) ∙ s.2 ∙ take_all n bs l)
 
 -- what is listed of the one element as elements back to back
-pub lines-of : (bs : List ℕ) (n : ℕ) (before lines : List Line) → Sized bs → Starts 32 bs n → length bs ≤ n → before ≡ [] →
-    ((ts : Forest) → Valids ts 32 → encodes ts ≡ bs → lines ≡ before ++ linesIn 0 1 ts) → (t : Tree) × Whole bs t × (lines ≡ lines_of 0 1 t)
-unfolding forms-of whole_of
-lines-of bs n before lines z s l e k =
-    let f = forms-of bs n s l in
+pub lines_of_lem : (bs : List ℕ) (n : ℕ) (before lines : List Line) → Sized bs → Starts 32 bs n → length bs ≤ n → before ≡ [] →
+    ((ts : Forest) → Valids ts 32 → encodes ts ≡ bs → lines ≡ before ++ lines_in 0 1 ts) → (t : Tree) × Whole bs t × (lines ≡ lines_of 0 1 t)
+unfolding forms_of whole_of
+lines_of_lem bs n before lines z s l e k =
+    let f = forms_of bs n s l in
     let w = whole_of bs n z s l in
     (w.0, w.1, k f.0 f.1 f.2 ∙ ap (λ (x : List Line). x ++ (lines_of 0 1 w.0 ++ [])) e ∙ append-nil (lines_of 0 1 w.0))

@@ -11,39 +11,39 @@ use Rattle.std.specs.declared.alloc.Global.{Global}
 use Rattle.listing.specs.declared.line.Line.{Line}
 use Rattle.listing.specs.declared.outline.Outline.{Outline}
 use Rattle.listing.specs.declared.outline.Outline.TheVariants.{Lines}
-use Rattle.listing.specs.Words.{indentText, hexDigit, hexText, lineText}
-use Rattle.listing.specs.Pages.{ended, linesText, outlineText}
+use Rattle.listing.specs.Words.{indent_text, hex_digit, hex_text, line_text}
+use Rattle.listing.specs.Pages.{ended, lines_text, outline_text}
 
-hexDigit-lt : (d : ℕ) → d < 16 → hexDigit d < 128
-hexDigit-lt d l = cond_both (ltb d 10) (48 + d) (55 + d) (λ n. n < 128) (λ _. omega arith) (λ _. omega arith)
+hex_digit_lt : (d : ℕ) → d < 16 → hex_digit d < 128
+hex_digit_lt d l = cond_both (ltb d 10) (48 + d) (55 + d) (λ n. n < 128) (λ _. omega arith) (λ _. omega arith)
 
-encode-hexDigit : (c d : ℕ) → d < 16 → c ≡ hexDigit d → encode c ≡ hexDigit d ∷ []
-encode-hexDigit c d l e = ap encode e ∙ encode_ascii (hexDigit d) (hexDigit-lt d l)
+encode_hex_digit : (c d : ℕ) → d < 16 → c ≡ hex_digit d → encode c ≡ hex_digit d ∷ []
+encode_hex_digit c d l e = ap encode e ∙ encode_ascii (hex_digit d) (hex_digit_lt d l)
 
-pub hex-text : (byte high low : ℕ) → byte < 256 → high ≡ hexDigit (byte / 16) → low ≡ hexDigit (byte % 16) → encode high ++ encode low ≡ hexText byte
-hex-text byte high low b h l =
-    ap (λ (x : List ℕ). x ++ encode low) (encode-hexDigit high (byte / 16) (omega arith) h)
-    ∙ ap {B = List ℕ} (λ x. hexDigit (byte / 16) ∷ x) (encode-hexDigit low (byte % 16) (omega arith) l)
+pub hex_text_lem : (byte high low : ℕ) → byte < 256 → high ≡ hex_digit (byte / 16) → low ≡ hex_digit (byte % 16) → encode high ++ encode low ≡ hex_text byte
+hex_text_lem byte high low b h l =
+    ap (λ (x : List ℕ). x ++ encode low) (encode_hex_digit high (byte / 16) (omega arith) h)
+    ∙ ap {B = List ℕ} (λ x. hex_digit (byte / 16) ∷ x) (encode_hex_digit low (byte % 16) (omega arith) l)
 
-pub indent-on : (steps : ℕ) → indentText steps ++ codes "  " ≡ indentText (steps + 1)
-indent-on steps =
+pub indent_on : (steps : ℕ) → indent_text steps ++ codes "  " ≡ indent_text (steps + 1)
+indent_on steps =
     let n : 2 * steps + 2 ≡ 2 * (steps + 1) = omega arith in
     replicate-append-replicate (2 * steps) 2 32 ∙ ap (λ (m : ℕ). replicate m 32) n
 
-linesText-append : (ks ls : List Line) → linesText (ks ++ ls) ≡ linesText ks ++ linesText ls
-linesText-append [] ls = refl
-linesText-append (k ∷ ks) ls =
-    ap (λ (x : List ℕ). ended (lineText k) ++ x) (linesText-append ks ls) ∙ sym (append_assoc (ended (lineText k)) (linesText ks) (linesText ls))
+lines_text_append : (ks ls : List Line) → lines_text (ks ++ ls) ≡ lines_text ks ++ lines_text ls
+lines_text_append [] ls = refl
+lines_text_append (k ∷ ks) ls =
+    ap (λ (x : List ℕ). ended (line_text k) ++ x) (lines_text_append ks ls) ∙ sym (append_assoc (ended (line_text k)) (lines_text ks) (lines_text ls))
 
 -- one line more
-lines-on : (ls : List Line) (i : ℕ) (d : Line) → i < length ls → linesText (take i ls) ++ ended (lineText (get_or ls i d)) ≡ linesText (take (i + 1) ls)
-lines-on ls i d l =
-    ap (λ (x : List ℕ). linesText (take i ls) ++ x) (sym (append-nil (ended (lineText (get_or ls i d)))))
-    ∙ sym (ap linesText (take_more ls i d l) ∙ linesText-append (take i ls) (get_or ls i d ∷ []))
+lines_on : (ls : List Line) (i : ℕ) (d : Line) → i < length ls → lines_text (take i ls) ++ ended (line_text (get_or ls i d)) ≡ lines_text (take (i + 1) ls)
+lines_on ls i d l =
+    ap (λ (x : List ℕ). lines_text (take i ls) ++ x) (sym (append-nil (ended (line_text (get_or ls i d)))))
+    ∙ sym (ap lines_text (take_more ls i d l) ∙ lines_text_append (take i ls) (get_or ls i d ∷ []))
 
-pub put-line : {W : Type 0} (took : W → List ℕ → W → Type 0) (f g h : Formatter W) (ls : List Line) (i : ℕ) (d : Line) → i < length ls →
-    HasWritten took f (linesText (take i ls)) g → HasWritten took g (ended (lineText (get_or ls i d))) h → HasWritten took f (linesText (take (i + 1) ls)) h
-put-line took f g h ls i d l p q = has_written_of_eq took f _ _ h (lines-on ls i d l) (has_written_append took f _ g _ h p q)
+pub put_line : {W : Type 0} (took : W → List ℕ → W → Type 0) (f g h : Formatter W) (ls : List Line) (i : ℕ) (d : Line) → i < length ls →
+    HasWritten took f (lines_text (take i ls)) g → HasWritten took g (ended (line_text (get_or ls i d))) h → HasWritten took f (lines_text (take (i + 1) ls)) h
+put_line took f g h ls i d l p q = has_written_of_eq took f _ _ h (lines_on ls i d l) (has_written_append took f _ g _ h p q)
 
-pub lines-all : (o : Outline) (v : Vec Line Global) (ls : List Line) (i : ℕ) → length ls ≤ i → ls ≡ vec_items v → o ≡ Lines v → linesText (take i ls) ≡ outlineText o
-lines-all o v ls i l e q = ap linesText (take_all i ls l ∙ e) ∙ ap outlineText (sym q)
+pub lines_all : (o : Outline) (v : Vec Line Global) (ls : List Line) (i : ℕ) → length ls ≤ i → ls ≡ vec_items v → o ≡ Lines v → lines_text (take i ls) ≡ outline_text o
+lines_all o v ls i l e q = ap lines_text (take_all i ls l ∙ e) ∙ ap outline_text (sym q)

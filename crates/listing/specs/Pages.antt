@@ -4,25 +4,25 @@ use Rattle.listing.specs.declared.line.Line.{Line}
 use Rattle.listing.specs.declared.outline.Outline.{Outline}
 use Rattle.listing.specs.declared.outline.Outline.TheVariants.{Lines, Refused}
 use Rattle.listing.specs.Told.{Tells}
-use Rattle.listing.specs.Words.{lineText, refusalText}
+use Rattle.listing.specs.Words.{line_text, refusal_text}
 
 -- a text and the line end
 abbrev pub ended : List ℕ → List ℕ
 ended text = text ++ 10 ∷ []
 
 -- lines, one after another
-abbrev pub linesText : List Line → List ℕ
-linesText [] = []
-linesText (l ∷ ls) = ended (lineText l) ++ linesText ls
+abbrev pub lines_text : List Line → List ℕ
+lines_text [] = []
+lines_text (l ∷ ls) = ended (line_text l) ++ lines_text ls
 
 -- an outline: its lines, or the refusal alone
-abbrev pub outlineText : Outline → List ℕ
-outlineText (Lines lines) = linesText (vec_items lines)
-outlineText (Refused r) = ended (refusalText r)
+abbrev pub outline_text : Outline → List ℕ
+outline_text (Lines lines) = lines_text (vec_items lines)
+outline_text (Refused r) = ended (refusal_text r)
 
 -- the text that is printed of a file
 abbrev pub TextOf : List ℕ → List ℕ → Type 0
-TextOf bs text = (o : Outline) × Tells bs o × (text ≡ outlineText o)
+TextOf bs text = (o : Outline) × Tells bs o × (text ≡ outline_text o)
 
 -- a file has one text
 abbrev pub OneText : Type 0

@@ -1,7 +1,7 @@
 //! The lines of elements back to back.
 ghost use Rattle.std.specs.Prelude.{◌≡◌, ℕ, ◌+◌, ◌-◌, ◌^◌, ◌<◌, ◌≤◌, ◌++◌, length, OnOk};
 ghost use Rattle.der.specs.Trees.{Forest, Forms, Valids, encodes};
-ghost use Rattle.listing.specs.Listed.{linesIn};
+ghost use Rattle.listing.specs.Listed.{lines_in};
 
 use super::line::Line;
 use der::{Header, read_header};
@@ -18,7 +18,7 @@ pub(crate) fn list_elements(
     requires deep { level ≤ 33 }
     requires forms { Forms (33 - level) bytes.now }
     ensures { OnOk result ((ts : Forest) → Valids ts (33 - level) → encodes ts ≡ bytes.now →
-        lines.new.items ≡ lines.old.items ++ linesIn place level ts) }
+        lines.new.items ≡ lines.old.items ++ lines_in place level ts) }
 {
     let mut at = 0;
     while at < bytes.len() {

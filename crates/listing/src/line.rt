@@ -1,6 +1,6 @@
 //! One line of an outline.
 ghost use Rattle.std.specs.Prelude.{Some};
-ghost use Rattle.listing.specs.Words.{lineText};
+ghost use Rattle.listing.specs.Words.{line_text};
 
 use super::words::{HexByte, Indent};
 use std::fmt;
@@ -21,7 +21,7 @@ pub struct Line {
 
 /// As `    17: level 3 tag 06 header 2 contents 9`, indented by two spaces for each level below the first.
 impl fmt::Display for Line {
-    ghost output = { λ l. Some (lineText l) };
+    ghost output = { λ l. Some (line_text l) };
 
     fn fmt<W: fmt::Write>(&self, f: &mut fmt::Formatter<W>) -> fmt::Result {
         let indent = Indent(self.level.saturating_sub(1));

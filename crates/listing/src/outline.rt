@@ -2,7 +2,7 @@
 ghost use Rattle.std.specs.Prelude.{◌≡◌, IfOk, Some, string_bytes, MatchResult};
 ghost use Rattle.der.specs.Trees.{Tree};
 ghost use Rattle.listing.specs.Told.{Tells, Whole};
-ghost use Rattle.listing.specs.Pages.{outlineText, TextOf};
+ghost use Rattle.listing.specs.Pages.{outline_text, TextOf};
 
 use super::elements::list_elements;
 use super::line::Line;
@@ -53,7 +53,7 @@ pub fn tell_outline(heap: Global, bytes: &[u8]) -> Result<String, AllocError>
 
 /// Each line, or the refusal, with a line end after it.
 impl fmt::Display for Outline {
-    ghost output = { λ o. Some (outlineText o) };
+    ghost output = { λ o. Some (outline_text o) };
 
     fn fmt<W: fmt::Write>(&self, f: &mut fmt::Formatter<W>) -> fmt::Result {
         match self {

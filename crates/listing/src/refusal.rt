@@ -1,6 +1,6 @@
 //! Why a file has no outline.
 ghost use Rattle.std.specs.Prelude.{◌≡◌, Some};
-ghost use Rattle.listing.specs.Words.{parts_of, refusalText};
+ghost use Rattle.listing.specs.Words.{parts_of, refusal_text};
 
 use der::Fault;
 use std::fmt;
@@ -31,7 +31,7 @@ impl Refusal {
 
 /// As `refused 2 place 17 cause 5`.
 impl fmt::Display for Refusal {
-    ghost output = { λ r. Some (refusalText r) };
+    ghost output = { λ r. Some (refusal_text r) };
 
     fn fmt<W: fmt::Write>(&self, f: &mut fmt::Formatter<W>) -> fmt::Result {
         let (number, place, cause) = self.parts();

@@ -1,6 +1,6 @@
 //! Pieces of the text of a line.
 ghost use Rattle.std.specs.Prelude.{◌≡◌, ◌<◌, Some};
-ghost use Rattle.listing.specs.Words.{hexDigit, hexText, indentText};
+ghost use Rattle.listing.specs.Words.{hex_digit, hex_text, indent_text};
 
 use std::fmt;
 
@@ -9,7 +9,7 @@ use std::fmt;
 pub(crate) struct Indent(pub u8);
 
 impl fmt::Display for Indent {
-    ghost output = { λ i. Some (indentText i.0) };
+    ghost output = { λ i. Some (indent_text i.0) };
 
     fn fmt<W: fmt::Write>(&self, f: &mut fmt::Formatter<W>) -> fmt::Result {
         for _step in 0..self.0 {
@@ -24,7 +24,7 @@ impl fmt::Display for Indent {
 pub(crate) struct HexByte(pub u8);
 
 impl fmt::Display for HexByte {
-    ghost output = { λ b. Some (hexText b.0) };
+    ghost output = { λ b. Some (hex_text b.0) };
 
     fn fmt<W: fmt::Write>(&self, f: &mut fmt::Formatter<W>) -> fmt::Result {
         let high = digit_of(self.0 / 16);
@@ -36,7 +36,7 @@ impl fmt::Display for HexByte {
 /// The hexadecimal digit of a number below 16.
 fn digit_of(value: u8) -> char
     requires { value < 16 }
-    ensures { result ≡ hexDigit value }
+    ensures { result ≡ hex_digit value }
 {
     if value < 10 {
         char::from(b'0' + value)

@@ -4,21 +4,21 @@ use Rattle.std.proofs.lemmas.List.{drop_more, drop_all, append_assoc, append-nil
 use Rattle.der.specs.Trees.{Tree, encode}
 use Rattle.stamp_model.specs.declared.lists.ListName.{ListName}
 use Rattle.index.specs.Puts.{Put}
-use Rattle.index.proofs.Areas.{set-put, put_then, put_same}
+use Rattle.index.proofs.Areas.{set_put, put_then, put_same}
 use Rattle.matching.specs.declared.row.Side.{Side}
 use Rattle.matching.specs.declared.row.Side.TheVariants.{Outside, Inside}
 use Rattle.matching.specs.declared.row.Row.{Row}
-use Rattle.matching.specs.Rows.{sideOf, rows_from, insideBy, outsideBy, insideIn, outsideIn}
+use Rattle.matching.specs.Rows.{side_for, rows_from, inside_told_by, outside_by, inside_in, outside_in}
 
 -- one more row is counted
-pub counted-more : (rows : List Row) (k : ℕ) (d : Row) (n m total : ℕ) → k < length rows → m ≡ insideBy (get_or rows k d).side → n + insideIn (drop k rows) ≡ total →
-    (n + m) + insideIn (drop (k + 1) rows) ≡ total
-counted-more rows k d n m total l e q =
-    let s : insideIn (drop k rows) ≡ insideBy (get_or rows k d).side + insideIn (drop (k + 1) rows) = ap insideIn (drop_more rows k d l) in
+pub counted_more : (rows : List Row) (k : ℕ) (d : Row) (n m total : ℕ) → k < length rows → m ≡ inside_told_by (get_or rows k d).side → n + inside_in (drop k rows) ≡ total →
+    (n + m) + inside_in (drop (k + 1) rows) ≡ total
+counted_more rows k d n m total l e q =
+    let s : inside_in (drop k rows) ≡ inside_told_by (get_or rows k d).side + inside_in (drop (k + 1) rows) = ap inside_in (drop_more rows k d l) in
     omega arith
 
-pub counted-all : (rows : List Row) (k n total : ℕ) → length rows ≤ k → n + insideIn (drop k rows) ≡ total → n ≡ total
-counted-all rows k n total l q = omega (arith, ap insideIn (drop_all k rows l))
+pub counted_all : (rows : List Row) (k n total : ℕ) → length rows ≤ k → n + inside_in (drop k rows) ≡ total → n ≡ total
+counted_all rows k n total l q = omega (arith, ap inside_in (drop_all k rows l))
 
 pub row_same : (list : ListName) (p q n m : ℕ) (a b : Side) → p ≡ q → n ≡ m → a ≡ b →
     ◌≡◌ {A = Row} (record { list = list; start = p; length = n; side = a }) (record { list = list; start = q; length = m; side = b })
@@ -32,7 +32,7 @@ behind p (t ∷ ts) = behind (p + length (encode t)) ts
 module _ (D : List ℕ → List ℕ) (list : ListName) (entries : List (List ℕ)) where
   -- the row of an element that begins at `p`
   abbrev pub row_at : ℕ → Tree → Row
-  row_at p t = record { list = list; start = p; length = length (encode t); side = sideOf entries (D (encode t)) }
+  row_at p t = record { list = list; start = p; length = length (encode t); side = side_for entries (D (encode t)) }
 
   rows_more : (p : ℕ) (done : List Tree) (t : Tree) → rows_from D list entries p (done ++ (t ∷ [])) ≡ rows_from D list entries p done ++ (row_at (behind p done) t ∷ [])
   rows_more p [] t = refl
@@ -48,9 +48,9 @@ module _ (D : List ℕ → List ℕ) (list : ListName) (entries : List (List ℕ
     pub reached : next ≡ behind p ts
 
   -- one more row
-  pub rowed-more : (p : ℕ) (was mid : List Row) (at middle next after : ℕ) (done : List Tree) (t : Tree) (r : Row) → middle < length mid →
+  pub rowed_more : (p : ℕ) (was mid : List Row) (at middle next after : ℕ) (done : List Tree) (t : Tree) (r : Row) → middle < length mid →
       Rowed p was mid at middle next done → r ≡ row_at next t → after ≡ next + length (encode t) → Rowed p was (set mid middle r) at (middle + 1) after (done ++ (t ∷ []))
-  rowed-more p was mid at middle next after done t r l h e q = record {
-    rows = put_same _ _ _ _ at (middle + 1) (ap (λ (x : Row). rows_from D list entries p done ++ (x ∷ [])) (e ∙ ap (λ (n : ℕ). row_at n t) h.reached) ∙ sym (rows_more p done t)) (put_then was mid (set mid middle r) _ _ at middle (middle + 1) h.rows (set-put mid middle r l));
+  rowed_more p was mid at middle next after done t r l h e q = record {
+    rows = put_same _ _ _ _ at (middle + 1) (ap (λ (x : Row). rows_from D list entries p done ++ (x ∷ [])) (e ∙ ap (λ (n : ℕ). row_at n t) h.reached) ∙ sym (rows_more p done t)) (put_then was mid (set mid middle r) _ _ at middle (middle + 1) h.rows (set_put mid middle r l));
     reached = q ∙ ap (λ (n : ℕ). n + length (encode t)) h.reached ∙ sym (behind_more p done t);
   }

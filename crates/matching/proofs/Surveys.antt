@@ -4,59 +4,59 @@ use Rattle.std.proofs.lemmas.List.{length-append}
 use Rattle.der.specs.Trees.{Tree, encode, body_of}
 use Rattle.stamp_model.specs.declared.lists.ListName.{ListName}
 use Rattle.stamp_model.specs.declared.lists.ListName.TheVariants.{Certificates, Revocations, Attributes}
-use Rattle.stamp_model.specs.Indexes.{Index, entriesOf}
+use Rattle.stamp_model.specs.Indexes.{Index, entries_for}
 use Rattle.index.specs.declared.elements.ElementLists.{ElementLists}
 use Rattle.index.specs.Puts.{Put, Written}
-use Rattle.index.specs.Standing.{elementsFor, entryTrees}
+use Rattle.index.specs.Standing.{elements_for, entry_trees}
 use Rattle.index.proofs.Areas.{put_then, put_same, put_whole}
 use Rattle.matching.specs.declared.row.Side.{Side}
 use Rattle.matching.specs.declared.row.Side.TheVariants.{Outside, Inside}
 use Rattle.matching.specs.declared.row.Row.{Row}
-use Rattle.matching.specs.Rows.{rows_from, rowsIn, rows_of, insideBy, outsideBy, insideIn, outsideIn, Surveyed}
-use Rattle.matching.proofs.Missing.{bodies-are}
+use Rattle.matching.specs.Rows.{rows_from, rows_in, rows_of, inside_told_by, outside_by, inside_in, outside_in, Surveyed}
+use Rattle.matching.proofs.Missing.{bodies_are}
 
-one_side : (s : Side) → insideBy s + outsideBy s ≡ 1
+one_side : (s : Side) → inside_told_by s + outside_by s ≡ 1
 one_side Inside = refl
 one_side Outside = refl
 
 -- every row is inside or outside
-pub both-sides : (rows : List Row) → insideIn rows + outsideIn rows ≡ length rows
-both-sides [] = refl
-both-sides (r ∷ rows) = let e = both-sides rows in omega (arith, one_side r.side)
+pub both_sides : (rows : List Row) → inside_in rows + outside_in rows ≡ length rows
+both_sides [] = refl
+both_sides (r ∷ rows) = let e = both_sides rows in omega (arith, one_side r.side)
 
 -- as many rows as elements
-rows-length : (D : List ℕ → List ℕ) (list : ListName) (entries : List (List ℕ)) (p : ℕ) (ts : List Tree) → length (rows_from D list entries p ts) ≡ length ts
-rows-length D list entries p [] = refl
-rows-length D list entries p (t ∷ ts) = let e = rows-length D list entries (p + length (encode t)) ts in omega arith
+rows_length : (D : List ℕ → List ℕ) (list : ListName) (entries : List (List ℕ)) (p : ℕ) (ts : List Tree) → length (rows_from D list entries p ts) ≡ length ts
+rows_length D list entries p [] = refl
+rows_length D list entries p (t ∷ ts) = let e = rows_length D list entries (p + length (encode t)) ts in omega arith
 
 module _ (D : List ℕ → List ℕ) (lists : ElementLists) (trees : ListName → List Tree) (x : Index) where
-  pub all-rows : length (rows_of D lists trees x) ≡ length (trees Certificates) + (length (trees Revocations) + length (trees Attributes))
-  all-rows =
-      length-append (rowsIn D lists trees x Certificates) _ ∙ omega (
+  pub all_rows : length (rows_of D lists trees x) ≡ length (trees Certificates) + (length (trees Revocations) + length (trees Attributes))
+  all_rows =
+      length-append (rows_in D lists trees x Certificates) _ ∙ omega (
         arith,
-        length-append (rowsIn D lists trees x Revocations) (rowsIn D lists trees x Attributes),
-        rows-length D Certificates (entriesOf x Certificates) lists.certificates.at (trees Certificates),
-        rows-length D Revocations (entriesOf x Revocations) lists.revocations.at (trees Revocations),
-        rows-length D Attributes (entriesOf x Attributes) lists.attributes.at (trees Attributes),
+        length-append (rows_in D lists trees x Revocations) (rows_in D lists trees x Attributes),
+        rows_length D Certificates (entries_for x Certificates) lists.certificates.at (trees Certificates),
+        rows_length D Revocations (entries_for x Revocations) lists.revocations.at (trees Revocations),
+        rows_length D Attributes (entries_for x Attributes) lists.attributes.at (trees Attributes),
       )
 
   -- the rows of one list are put
   abbrev pub PutIn : ListName → List Row → List Row → ℕ → ℕ → Type 0
-  PutIn list was is at end = Put was is at (rows_from D list (map body_of (entryTrees x list)) (elementsFor lists list).at (trees list)) end
+  PutIn list was is at end = Put was is at (rows_from D list (map body_of (entry_trees x list)) (elements_for lists list).at (trees list)) end
 
-  put_in : (list : ListName) (was is : List Row) (at end : ℕ) → PutIn list was is at end → Put was is at (rowsIn D lists trees x list) end
+  put_in : (list : ListName) (was is : List Row) (at end : ℕ) → PutIn list was is at end → Put was is at (rows_in D lists trees x list) end
   put_in list was is at end p =
-      put_same was is _ _ at end (ap (λ (es : List (List ℕ)). rows_from D list es (elementsFor lists list).at (trees list)) (bodies-are (entriesOf x list))) p
+      put_same was is _ _ at end (ap (λ (es : List (List ℕ)). rows_from D list es (elements_for lists list).at (trees list)) (bodies_are (entries_for x list))) p
 
   pub surveyed : (was one two is : List Row) (a b end n : ℕ) → PutIn Certificates was one 0 a → PutIn Revocations one two a b → PutIn Attributes two is b end →
-      n ≡ insideIn (take (end - 0) is) → Surveyed (rows_of D lists trees x) was is (record { inside = n; outside = end - n })
+      n ≡ inside_in (take (end - 0) is) → Surveyed (rows_of D lists trees x) was is (record { inside = n; outside = end - n })
   surveyed was one two is a b end n p q r e =
       let rows : List Row = rows_of D lists trees x in
       let put = put_then was one is _ _ 0 a end (put_in Certificates was one 0 a p) (put_then one two is _ _ a b end (put_in Revocations one two a b q) (put_in Attributes two is b end r)) in
       let whole = put_whole was is rows end put in
       let zero-off : end - 0 ≡ end = omega arith in
-      let inside : n ≡ insideIn rows = e ∙ ap (λ (k : ℕ). insideIn (take k is)) zero-off ∙ ap insideIn put.front in
-      let sides = both-sides rows in
+      let inside : n ≡ inside_in rows = e ∙ ap (λ (k : ℕ). inside_in (take k is)) zero-off ∙ ap inside_in put.front in
+      let sides = both_sides rows in
       let sum : n + (end - n) ≡ end = omega (arith, inside, sides, whole.counted) in
       record {
         written = record { counted = sum ∙ whole.counted; front = whole.front ∙ ap (λ (k : ℕ). rows ++ drop k was) (sym sum) };

@@ -11,12 +11,12 @@ parts zero size bytes = []
 parts (suc n) size bytes = take size bytes ∷ parts n size (drop size bytes)
 
 -- the digests that are held
-abbrev pub digestsIn : Digests → List (List ℕ)
-digestsIn d = parts d.count d.size d.bytes
+abbrev pub digests_in : Digests → List (List ℕ)
+digests_in d = parts d.count d.size d.bytes
 
 -- the digests of some elements, joined
-abbrev pub digestsBytes : (List ℕ → List ℕ) → List Tree → List ℕ
-digestsBytes D ts = flat_map D (map encode ts)
+abbrev pub digests_bytes : (List ℕ → List ℕ) → List Tree → List ℕ
+digests_bytes D ts = flat_map D (map encode ts)
 
 -- whether one of the lists is these bytes
 abbrev pub holds : List (List ℕ) → List ℕ → Bool

@@ -1,10 +1,10 @@
 //! The entries of an index, one by one against the digests of a file's elements.
 ghost use Rattle.std.specs.Prelude.{◌≡◌, ℕ, ◌≤◌, List, map};
 ghost use Rattle.der.specs.Trees.{Tree, body_of, encode};
-ghost use Rattle.stamp_model.specs.Indexes.{Index, entriesOf};
-ghost use Rattle.index.specs.Standing.{Stand, StandLists, encodedBy, entryTrees};
-ghost use Rattle.matching.specs.Lists.{digestsIn};
-ghost use Rattle.matching.specs.Unmatched.{firstMissing, inList, firstUnmatched};
+ghost use Rattle.stamp_model.specs.Indexes.{Index, entries_for};
+ghost use Rattle.index.specs.Standing.{Stand, StandLists, encoded_by, entry_trees};
+ghost use Rattle.matching.specs.Lists.{digests_in};
+ghost use Rattle.matching.specs.Unmatched.{first_missing_of, in_list, first_unmatched_of};
 
 use crate::digests::Digests;
 use crate::unmatched::Unmatched;
@@ -15,7 +15,7 @@ use stamp_model::ListName;
 
 /// The number of the first entry that is none of the digests.
 fn first_missing(digests: &Digests, index: &[u8], entries: Elements) -> Option<usize>
-    ensures { (ts : List Tree) → Stand index.now entries ts → result ≡ firstMissing (digestsIn digests.now) 0 (map body_of ts) }
+    ensures { (ts : List Tree) → Stand index.now entries ts → result ≡ first_missing_of (digests_in digests.now) 0 (map body_of ts) }
 {
     let mut reader = Reader {
         bytes: index,
@@ -43,7 +43,7 @@ fn find_in_list<G: Digest>(
 ) -> Option<Unmatched>
     requires { elements.count ≤ 64 }
     ensures { (ts us : List Tree) → Stand file.now elements ts → Stand index.now entries us
-        → result ≡ inList list (firstMissing (map value (map encode ts)) 0 (map body_of us)) }
+        → result ≡ in_list list (first_missing_of (map value (map encode ts)) 0 (map body_of us)) }
 {
     let digests = Digests::of::<G>(file, elements);
     match first_missing(&digests, index, entries) {
@@ -61,8 +61,8 @@ pub fn first_unmatched<G: Digest>(
     entries: ElementLists,
 ) -> Option<Unmatched>
     requires { (lists.certificates.count ≤ 64) × ((lists.revocations.count ≤ 64) × (lists.attributes.count ≤ 64)) }
-    ensures { (trees : ListName → List Tree) (x : Index) → StandLists file.now lists trees → StandLists index.now entries (entryTrees x)
-        → result ≡ firstUnmatched value (encodedBy trees) x }
+    ensures { (trees : ListName → List Tree) (x : Index) → StandLists file.now lists trees → StandLists index.now entries (entry_trees x)
+        → result ≡ first_unmatched_of value (encoded_by trees) x }
 {
     if let Some(unmatched) = find_in_list::<G>(
         file,

@@ -4,9 +4,9 @@ ghost use Rattle.der.specs.Trees.{Tree, body_of};
 ghost use Rattle.digest.specs.Took.{most};
 ghost use Rattle.stamp_model.specs.Indexes.{Index};
 ghost use Rattle.index.specs.Puts.{Put};
-ghost use Rattle.index.specs.Standing.{Stand, StandLists, entryTrees};
+ghost use Rattle.index.specs.Standing.{Stand, StandLists, entry_trees};
 ghost use Rattle.matching.specs.Lists.{holds as Holds};
-ghost use Rattle.matching.specs.Rows.{sideOf, rows_from, rows_of, insideBy, insideIn, Surveyed};
+ghost use Rattle.matching.specs.Rows.{side_for, rows_from, rows_of, inside_told_by, inside_in, Surveyed};
 
 use crate::row::{Row, Side, Tally};
 use der::Reader;
@@ -38,7 +38,7 @@ fn has_entry(index: &[u8], entries: Elements, wanted: &[u8]) -> bool
 /// The side of an element: its digest is made once, and compared with each entry.
 fn side_of<G: Digest>(element: &[u8], index: &[u8], entries: Elements) -> Side
     ensures { (us : List Tree) → Stand index.now entries us → length element.now ≤ most
-        → result ≡ sideOf (map body_of us) (value element.now) }
+        → result ≡ side_for (map body_of us) (value element.now) }
 {
     let mut digest = [0u8; 64];
     let end = put_digest::<G>(&mut digest, 0, element);
@@ -88,7 +88,7 @@ fn put_rows<G: Digest>(
 
 /// How much an element on this side counts among those inside.
 fn inside_by(side: Side) -> usize
-    ensures value { result ≡ insideBy side }
+    ensures value { result ≡ inside_told_by side }
     ensures few { result ≤ 1 }
 {
     match side {
@@ -99,7 +99,7 @@ fn inside_by(side: Side) -> usize
 
 /// How many of the rows are inside.
 fn count_inside(rows: &[Row]) -> usize
-    ensures value { result ≡ insideIn rows.now }
+    ensures value { result ≡ inside_in rows.now }
     ensures few { result ≤ length rows.now }
 {
     let mut inside = 0;
@@ -119,7 +119,7 @@ pub fn fill_rows<G: Digest>(
     table: &mut [Row],
 ) -> Tally
     requires { lists.certificates.count + (lists.revocations.count + lists.attributes.count) ≤ length table.old }
-    ensures { (trees : ListName → List Tree) (x : Index) → StandLists file.now lists trees → StandLists index.now entries (entryTrees x)
+    ensures { (trees : ListName → List Tree) (x : Index) → StandLists file.now lists trees → StandLists index.now entries (entry_trees x)
         → Surveyed (rows_of value lists trees x) table.old table.new result }
 {
     let revocations = put_rows::<G>(

@@ -2,16 +2,16 @@
 use Rattle.std.proofs.Common.{◌≡◌, ℕ, ◌+◌, ◌-◌, ◌≤◌, List, [], ◌∷◌, ◌++◌, length, Some, None, Option, sym, refl, ap, ◌∙◌, subst, arith}
 use Rattle.std.proofs.lemmas.List.{append-nil}
 use Rattle.der.specs.Trees.{Tree, leaf, node, Forest, none, more, Valid, Constructed, encode}
-use Rattle.fields.proofs.Tags.{seq, set, field-zero, field-one}
+use Rattle.fields.proofs.Tags.{seq, set, field_zero, field_one}
 use Rattle.cms.specs.declared.located.Message.{Message}
-use Rattle.cms.specs.Identifiers.{signedDataId}
-use Rattle.fields.specs.Placed.{Placed, placedFrom, nth, past, ifFirst, mapped, entriesOf, span_of}
-use Rattle.cms.specs.Places.{messageAt}
-use Rattle.fields.specs.Rules.{headSize, bodySize}
-use Rattle.fields.proofs.Standing.{At, rest_at, inside-at, first-bytes}
-use Rattle.model.specs.Parts.{row_of, row, maybe, Signer, signerTree, contentParts}
-use Rattle.model.specs.Files.{File, certificatesTree, revocationsTree, contentTypeTree, contentInfoTree, signersTree, signedDataTree, fileTree, fileBytes}
-use Rattle.rules.specs.Offsets.{behind, inside, skipMaybe, dataAt, certificatesAt, revocationsAt, signersAt}
+use Rattle.cms.specs.Identifiers.{signed_data_id}
+use Rattle.fields.specs.Placed.{Placed, placed_from, nth, past, if_first, mapped, entries_for, span_of}
+use Rattle.cms.specs.Places.{message_at}
+use Rattle.fields.specs.Rules.{head_size, body_size}
+use Rattle.fields.proofs.Standing.{At, rest_at, inside_at, first_bytes}
+use Rattle.model.specs.Parts.{row_of, row, maybe, Signer, signer_tree, content_parts}
+use Rattle.model.specs.Files.{File, certificates_tree, revocations_tree, content_type_tree, content_info_tree, signers_tree, signed_data_tree, file_tree, file_bytes}
+use Rattle.rules.specs.Offsets.{behind, inside, skip_maybe, data_at, certificates_at, revocations_at, signers_at}
 use Rattle.rules.specs.Signers.{Signers}
 use Rattle.cms.specs.declared.settings.Settings.{Settings}
 use Rattle.message.specs.Formed.{Formed}
@@ -19,102 +19,102 @@ use Rattle.message.specs.Lies.{ListLies, Lies}
 use Rattle.message.proofs.Made.{whole_part}
 
 -- behind a field that may be there
-skip-maybe : {M : Type 0} (tree : M → Tree) (levels : ℕ) (file : List ℕ) (at end : ℕ) (o : Option M) (rest : Forest) → At levels file at end (maybe tree o rest) → At levels file (skipMaybe tree at o) end rest
-skip-maybe tree levels file at end None rest a = a
-skip-maybe tree levels file at end (Some m) rest a = rest_at levels file at end (tree m) rest a
+skip_maybe_lem : {M : Type 0} (tree : M → Tree) (levels : ℕ) (file : List ℕ) (at end : ℕ) (o : Option M) (rest : Forest) → At levels file at end (maybe tree o rest) → At levels file (skip_maybe tree at o) end rest
+skip_maybe_lem tree levels file at end None rest a = a
+skip_maybe_lem tree levels file at end (Some m) rest a = rest_at levels file at end (tree m) rest a
 
-length-row : {M : Type 0} (tree : M → Tree) (p : ℕ) (ms : List M) → length (placedFrom p (row_of tree ms)) ≡ length ms
-length-row tree p [] = refl
-length-row tree p (m ∷ ms) = let e = length-row tree (p + headSize (tree m) + bodySize (tree m)) ms in omega arith
+length_row : {M : Type 0} (tree : M → Tree) (p : ℕ) (ms : List M) → length (placed_from p (row_of tree ms)) ≡ length ms
+length_row tree p [] = refl
+length_row tree p (m ∷ ms) = let e = length_row tree (p + head_size (tree m) + body_size (tree m)) ms in omega arith
 
-signers-placed : (at : ℕ) (cs rs : Option (List Tree)) (parts : Forest) →
-    nth 0 (past 0xa1 (past 0xa0 (placedFrom at (maybe certificatesTree cs (maybe revocationsTree rs (more (node 0x31 parts) none))))))
-    ≡ record { at = skipMaybe revocationsTree (skipMaybe certificatesTree at cs) rs; tree = node 0x31 parts }
-signers-placed at None None parts = refl
-signers-placed at None (Some rs) parts = refl
-signers-placed at (Some cs) None parts = refl
-signers-placed at (Some cs) (Some rs) parts = refl
+signers_placed : (at : ℕ) (cs rs : Option (List Tree)) (parts : Forest) →
+    nth 0 (past 0xa1 (past 0xa0 (placed_from at (maybe certificates_tree cs (maybe revocations_tree rs (more (node 0x31 parts) none))))))
+    ≡ record { at = skip_maybe revocations_tree (skip_maybe certificates_tree at cs) rs; tree = node 0x31 parts }
+signers_placed at None None parts = refl
+signers_placed at None (Some rs) parts = refl
+signers_placed at (Some cs) None parts = refl
+signers_placed at (Some cs) (Some rs) parts = refl
 
 -- the lists stand in their fields
-list-lies : (levels : ℕ) (file : List ℕ) (at end tag : ℕ) (ts : List Tree) (rest : Forest) → Constructed tag → At levels file at end (more (node tag (row ts)) rest) →
-    ListLies (levels - 1) file (Some (entriesOf (record { at = at; tree = node tag (row ts) }))) (Some ts)
-list-lies levels file at end tag ts rest k a = (length-row (λ t. t) _ ts, inside-at levels file at end (node tag (row ts)) rest a tag refl k)
+list_lies : (levels : ℕ) (file : List ℕ) (at end tag : ℕ) (ts : List Tree) (rest : Forest) → Constructed tag → At levels file at end (more (node tag (row ts)) rest) →
+    ListLies (levels - 1) file (Some (entries_for (record { at = at; tree = node tag (row ts) }))) (Some ts)
+list_lies levels file at end tag ts rest k a = (length_row (λ t. t) _ ts, inside_at levels file at end (node tag (row ts)) rest a tag refl k)
 
-certificates-lie : (levels : ℕ) (file : List ℕ) (at end : ℕ) (cs rs : Option (List Tree)) (parts : Forest) →
-    At levels file at end (maybe certificatesTree cs (maybe revocationsTree rs (more (node 0x31 parts) none))) →
-    ListLies (levels - 1) file (mapped entriesOf (ifFirst 0xa0 (placedFrom at (maybe certificatesTree cs (maybe revocationsTree rs (more (node 0x31 parts) none)))))) cs
-certificates-lie levels file at end None None parts a = tt
-certificates-lie levels file at end None (Some rs) parts a = tt
-certificates-lie levels file at end (Some cs) rs parts a = list-lies levels file at end 0xa0 cs _ field-zero a
+certificates_lie : (levels : ℕ) (file : List ℕ) (at end : ℕ) (cs rs : Option (List Tree)) (parts : Forest) →
+    At levels file at end (maybe certificates_tree cs (maybe revocations_tree rs (more (node 0x31 parts) none))) →
+    ListLies (levels - 1) file (mapped entries_for (if_first 0xa0 (placed_from at (maybe certificates_tree cs (maybe revocations_tree rs (more (node 0x31 parts) none)))))) cs
+certificates_lie levels file at end None None parts a = tt
+certificates_lie levels file at end None (Some rs) parts a = tt
+certificates_lie levels file at end (Some cs) rs parts a = list_lies levels file at end 0xa0 cs _ field_zero a
 
-revocations-lie : (levels : ℕ) (file : List ℕ) (at end : ℕ) (cs rs : Option (List Tree)) (parts : Forest) →
-    At levels file (skipMaybe certificatesTree at cs) end (maybe revocationsTree rs (more (node 0x31 parts) none)) →
-    ListLies (levels - 1) file (mapped entriesOf (ifFirst 0xa1 (past 0xa0 (placedFrom at (maybe certificatesTree cs (maybe revocationsTree rs (more (node 0x31 parts) none))))))) rs
-revocations-lie levels file at end None None parts a = tt
-revocations-lie levels file at end None (Some rs) parts a = list-lies levels file at end 0xa1 rs _ field-one a
-revocations-lie levels file at end (Some cs) None parts a = tt
-revocations-lie levels file at end (Some cs) (Some rs) parts a = list-lies levels file _ end 0xa1 rs _ field-one a
+revocations_lie : (levels : ℕ) (file : List ℕ) (at end : ℕ) (cs rs : Option (List Tree)) (parts : Forest) →
+    At levels file (skip_maybe certificates_tree at cs) end (maybe revocations_tree rs (more (node 0x31 parts) none)) →
+    ListLies (levels - 1) file (mapped entries_for (if_first 0xa1 (past 0xa0 (placed_from at (maybe certificates_tree cs (maybe revocations_tree rs (more (node 0x31 parts) none))))))) rs
+revocations_lie levels file at end None None parts a = tt
+revocations_lie levels file at end None (Some rs) parts a = list_lies levels file at end 0xa1 rs _ field_one a
+revocations_lie levels file at end (Some cs) None parts a = tt
+revocations_lie levels file at end (Some cs) (Some rs) parts a = list_lies levels file _ end 0xa1 rs _ field_one a
 
 -- where the signed data ends
-pub dataEnd : File → ℕ
-dataEnd f = behind (inside (behind (inside 0 (fileTree f)) (leaf 6 signedDataId)) (node 0xa0 (more (signedDataTree f) none))) (signedDataTree f)
+pub data_end : File → ℕ
+data_end f = behind (inside (behind (inside 0 (file_tree f)) (leaf 6 signed_data_id)) (node 0xa0 (more (signed_data_tree f) none))) (signed_data_tree f)
 
 module _ (settings : Settings) (levels : ℕ) (file : List ℕ) (f : File) (k : Formed settings levels file f) where
-  whole : At levels file 0 (length file) (more (fileTree f) none)
+  whole : At levels file 0 (length file) (more (file_tree f) none)
   whole = record {
     valid = (k.valid, tt);
-    bytes = whole_part file ∙ k.bytes-are ∙ sym (append-nil (fileBytes f));
+    bytes = whole_part file ∙ k.bytes_are ∙ sym (append-nil (file_bytes f));
     order = omega arith;
     inside = omega arith;
   }
 
   -- the fields of the signed data
-  pub fields : At (levels - 1 - 1 - 1) file (dataAt f) (dataEnd f) (more (leaf 2 (f.version ∷ [])) (more (node 0x31 f.digests) (more (contentInfoTree f)
-      (maybe certificatesTree f.certificates (maybe revocationsTree f.revocations (more (signersTree f) none))))))
-  unfolding dataEnd
+  pub fields : At (levels - 1 - 1 - 1) file (data_at f) (data_end f) (more (leaf 2 (f.version ∷ [])) (more (node 0x31 f.digests) (more (content_info_tree f)
+      (maybe certificates_tree f.certificates (maybe revocations_tree f.revocations (more (signers_tree f) none))))))
+  unfolding data_end
   fields =
-      inside-at (levels - 1 - 1) file _ _ (signedDataTree f) none
-      (inside-at (levels - 1) file _ _ (node 0xa0 (more (signedDataTree f) none)) none
-      (rest_at (levels - 1) file _ _ (leaf 6 signedDataId) (more (node 0xa0 (more (signedDataTree f) none)) none)
-      (inside-at levels file 0 (length file) (fileTree f) none whole 0x30 refl seq)) 0xa0 refl field-zero) 0x30 refl seq
+      inside_at (levels - 1 - 1) file _ _ (signed_data_tree f) none
+      (inside_at (levels - 1) file _ _ (node 0xa0 (more (signed_data_tree f) none)) none
+      (rest_at (levels - 1) file _ _ (leaf 6 signed_data_id) (more (node 0xa0 (more (signed_data_tree f) none)) none)
+      (inside_at levels file 0 (length file) (file_tree f) none whole 0x30 refl seq)) 0xa0 refl field_zero) 0x30 refl seq
 
-  info : At (levels - 1 - 1 - 1) file (behind (behind (dataAt f) (leaf 2 (f.version ∷ []))) (node 0x31 f.digests)) (dataEnd f)
-      (more (contentInfoTree f) (maybe certificatesTree f.certificates (maybe revocationsTree f.revocations (more (signersTree f) none))))
+  info : At (levels - 1 - 1 - 1) file (behind (behind (data_at f) (leaf 2 (f.version ∷ []))) (node 0x31 f.digests)) (data_end f)
+      (more (content_info_tree f) (maybe certificates_tree f.certificates (maybe revocations_tree f.revocations (more (signers_tree f) none))))
   info = rest_at (levels - 1 - 1 - 1) file _ _ (node 0x31 f.digests) _ (rest_at (levels - 1 - 1 - 1) file _ _ (leaf 2 (f.version ∷ [])) _ fields)
 
-  lists : At (levels - 1 - 1 - 1) file (certificatesAt f) (dataEnd f) (maybe certificatesTree f.certificates (maybe revocationsTree f.revocations (more (signersTree f) none)))
-  lists = rest_at (levels - 1 - 1 - 1) file _ _ (contentInfoTree f) _ info
+  lists : At (levels - 1 - 1 - 1) file (certificates_at f) (data_end f) (maybe certificates_tree f.certificates (maybe revocations_tree f.revocations (more (signers_tree f) none)))
+  lists = rest_at (levels - 1 - 1 - 1) file _ _ (content_info_tree f) _ info
 
-  signers-field : At (levels - 1 - 1 - 1) file (signersAt f) (dataEnd f) (more (signersTree f) none)
-  signers-field =
-      skip-maybe revocationsTree (levels - 1 - 1 - 1) file _ _ f.revocations _ (skip-maybe certificatesTree (levels - 1 - 1 - 1) file _ _ f.certificates _ lists)
+  signers_field_lem : At (levels - 1 - 1 - 1) file (signers_at f) (data_end f) (more (signers_tree f) none)
+  signers_field_lem =
+      skip_maybe_lem revocations_tree (levels - 1 - 1 - 1) file _ _ f.revocations _ (skip_maybe_lem certificates_tree (levels - 1 - 1 - 1) file _ _ f.certificates _ lists)
 
-  signers-inside : At (levels - 1 - 1 - 1 - 1) file (inside (signersAt f) (signersTree f)) (behind (signersAt f) (signersTree f)) (row_of signerTree f.signers)
-  signers-inside = inside-at (levels - 1 - 1 - 1) file _ _ (signersTree f) none signers-field 0x31 refl set
+  signers_inside : At (levels - 1 - 1 - 1 - 1) file (inside (signers_at f) (signers_tree f)) (behind (signers_at f) (signers_tree f)) (row_of signer_tree f.signers)
+  signers_inside = inside_at (levels - 1 - 1 - 1) file _ _ (signers_tree f) none signers_field_lem 0x31 refl set
 
-  pub type-inside : At (levels - 1 - 1 - 1 - 1) file (inside (behind (behind (dataAt f) (leaf 2 (f.version ∷ []))) (node 0x31 f.digests)) (contentInfoTree f))
-      (behind (behind (behind (dataAt f) (leaf 2 (f.version ∷ []))) (node 0x31 f.digests)) (contentInfoTree f)) (more (contentTypeTree f) (contentParts f.content))
-  type-inside = inside-at (levels - 1 - 1 - 1) file _ _ (contentInfoTree f) _ info 0x30 refl seq
+  pub type_inside : At (levels - 1 - 1 - 1 - 1) file (inside (behind (behind (data_at f) (leaf 2 (f.version ∷ []))) (node 0x31 f.digests)) (content_info_tree f))
+      (behind (behind (behind (data_at f) (leaf 2 (f.version ∷ []))) (node 0x31 f.digests)) (content_info_tree f)) (more (content_type_tree f) (content_parts f.content))
+  type_inside = inside_at (levels - 1 - 1 - 1) file _ _ (content_info_tree f) _ info 0x30 refl seq
 
-  pub file-lies : (m : Message) → m ≡ messageAt 0 (fileTree f) → Lies file m f
-  file-lies m e = subst (λ (x : Message). Lies file x f) (sym e) (record {
-    contentType = first-bytes (levels - 1 - 1 - 1 - 1) file _ _ (contentTypeTree f) (contentParts f.content) type-inside;
+  pub file_lies : (m : Message) → m ≡ message_at 0 (file_tree f) → Lies file m f
+  file_lies m e = subst (λ (x : Message). Lies file x f) (sym e) (record {
+    content_type_of = first_bytes (levels - 1 - 1 - 1 - 1) file _ _ (content_type_tree f) (content_parts f.content) type_inside;
     starts = ap (λ (x : Placed). (span_of x).start) placed;
     from = ap (λ (x : Placed). (span_of x).body) placed;
     levels = levels - 1 - 1 - 1 - 1;
     signers = subst (λ (x : Placed). Signers (levels - 1 - 1 - 1 - 1) file (span_of x).body (span_of x).end f.signers) (sym placed) (record {
-      valid = signers-inside.valid;
+      valid = signers_inside.valid;
       shape = k.shape.signers;
-      bytes = signers-inside.bytes;
-      order = signers-inside.order;
-      inside = signers-inside.inside;
+      bytes = signers_inside.bytes;
+      order = signers_inside.order;
+      inside = signers_inside.inside;
     });
-    count = ap (λ (x : Placed). (entriesOf x).count) placed ∙ length-row signerTree _ f.signers;
-    certificates = certificates-lie (levels - 1 - 1 - 1) file (certificatesAt f) (dataEnd f) f.certificates f.revocations (row_of signerTree f.signers) lists;
-    revocations = revocations-lie (levels - 1 - 1 - 1) file (certificatesAt f) (dataEnd f) f.certificates f.revocations (row_of signerTree f.signers)
-        (skip-maybe certificatesTree (levels - 1 - 1 - 1) file _ _ f.certificates _ lists);
+    count = ap (λ (x : Placed). (entries_for x).count) placed ∙ length_row signer_tree _ f.signers;
+    certificates = certificates_lie (levels - 1 - 1 - 1) file (certificates_at f) (data_end f) f.certificates f.revocations (row_of signer_tree f.signers) lists;
+    revocations = revocations_lie (levels - 1 - 1 - 1) file (certificates_at f) (data_end f) f.certificates f.revocations (row_of signer_tree f.signers)
+        (skip_maybe_lem certificates_tree (levels - 1 - 1 - 1) file _ _ f.certificates _ lists);
   })
     where
-      placed : nth 0 (past 0xa1 (past 0xa0 (placedFrom (certificatesAt f) (maybe certificatesTree f.certificates (maybe revocationsTree f.revocations (more (signersTree f) none))))))
-          ≡ record { at = signersAt f; tree = signersTree f }
-      placed = signers-placed (certificatesAt f) f.certificates f.revocations (row_of signerTree f.signers)
+      placed : nth 0 (past 0xa1 (past 0xa0 (placed_from (certificates_at f) (maybe certificates_tree f.certificates (maybe revocations_tree f.revocations (more (signers_tree f) none))))))
+          ≡ record { at = signers_at f; tree = signers_tree f }
+      placed = signers_placed (certificates_at f) f.certificates f.revocations (row_of signer_tree f.signers)

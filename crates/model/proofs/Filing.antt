@@ -7,20 +7,20 @@ use Rattle.std.specs.List.{AllByRecursion as All}
 use Rattle.std.specs.Str.{bytes_eq}
 use Rattle.der.specs.Trees.{Tree, leaf, node, Forest, none, more, Valid, Valids, tag_of}
 use Rattle.fields.specs.Reads.{is}
-use Rattle.cms.specs.Records.{certificateTags, revocationTags, octetTags}
-use Rattle.cms.specs.Identifiers.{signedDataId, timeStampInfoId}
+use Rattle.cms.specs.Records.{certificate_tags, revocation_tags, octet_tags}
+use Rattle.cms.specs.Identifiers.{signed_data_id, time_stamp_info_id}
 use Rattle.cms.specs.declared.settings.SignerCount.{SignerCount}
 use Rattle.cms.specs.declared.settings.SignerCount.TheVariants.{AtLeastOne, ExactlyOne, Nobody}
 use Rattle.cms.specs.declared.settings.ContentForm.{ContentForm}
 use Rattle.cms.specs.declared.settings.ContentForm.TheVariants.{Any, TimeStampInfo}
 use Rattle.cms.specs.declared.settings.Settings.{Settings}
-use Rattle.fields.specs.Rules.{parts_of, headSize, bodySize, Tags, Rule, nothing, free, field, optional, list, some, choose, follow, one}
-use Rattle.cms.specs.Grammar.{signer, signersBy, signers, revocations, certificates, content, byContentType, contentInfo, dataFields, byDataVersion, signedData, messageFields, byIdentifier, message, firstBreak, surplusAt}
-use Rattle.model.specs.Parts.{row_of, row, maybe, Signer, signerTree, Content, detached, plain, segmented, segmentTree, contentParts}
-use Rattle.model.specs.Files.{File, certificatesTree, revocationsTree, signedDataTree, fileTree}
-use Rattle.model.specs.Shapes.{SignerShape, SignersShape, IfThere, AllowedTags, IsPlain, ContentShape, dataVersion, Shape}
-use Rattle.model.proofs.Unbroken.{some-not-none, cond-none, or-none, First, field-none, nothing-none, node_of, leaf-of, entries, some-entries, NodeFirst, node-first, node-maybe, leaf_first, LeafFirst, LeafChosen, leaf-chosen}
-use Rattle.model.proofs.Signing.{bit-30, bit-31, bit-a0, bit-a1, one-is, signer-of}
+use Rattle.fields.specs.Rules.{parts_of, head_size, body_size, Tags, Rule, nothing, free, field, optional, list, some, choose, follow, one}
+use Rattle.cms.specs.Grammar.{signer, signers_by, signers, revocations, certificates, content, by_content_type, content_info, data_fields, by_data_version, signed_data, message_fields, by_identifier, message, first_break, surplus_at}
+use Rattle.model.specs.Parts.{row_of, row, maybe, Signer, signer_tree, Content, detached, plain, segmented, segment_tree, content_parts}
+use Rattle.model.specs.Files.{File, certificates_tree, revocations_tree, signed_data_tree, file_tree}
+use Rattle.model.specs.Shapes.{SignerShape, SignersShape, IfThere, AllowedTags, IsPlain, ContentShape, data_version, Shape}
+use Rattle.model.proofs.Unbroken.{some_not_none, cond_none, or_none, First, field_none, nothing_none, node_of, leaf_of, entries, some_entries, NodeFirst, node_first, node_maybe, leaf_first, LeafFirst, LeafChosen, leaf_chosen}
+use Rattle.model.proofs.Signing.{bit_30, bit_31, bit_a0, bit_a1, one_is, signer_of_lem}
 
 either_true : (a b : Bool) → (a || b) ≡ true → (a ≡ true) ⊎ (b ≡ true)
 either_true true b e = inl refl
@@ -33,80 +33,80 @@ named_by identifier next body at after rest e = by (bytes_eq body identifier) re
   where
     by : (b : Bool) → bytes_eq body identifier ≡ b → follow (cond b (Some next) None) at after rest ≡ None → (body ≡ identifier) × (next after rest ≡ None)
     by true q e = ((bytes_eq-Decides body identifier).0 q, e)
-    by false q e = absurd (some-not-none at e)
+    by false q e = absurd (some_not_none at e)
 
 -- segments are octet strings
-segment-of : (levels q : ℕ) (t : Tree) → Valid t levels → is 4 (tag_of t) ≡ true → free q (parts_of t) ≡ None →
-    (bytes : List ℕ) × Unit {0} × (t ≡ segmentTree bytes)
-segment-of levels q t v g e = let l = leaf-of 4 levels t refl v g in (l.0, tt, l.1)
+segment_of : (levels q : ℕ) (t : Tree) → Valid t levels → is 4 (tag_of t) ≡ true → free q (parts_of t) ≡ None →
+    (bytes : List ℕ) × Unit {0} × (t ≡ segment_tree bytes)
+segment_of levels q t v g e = let l = leaf_of 4 levels t refl v g in (l.0, tt, l.1)
 
 -- content: plain or segmented
-content-of : (levels p : ℕ) (ts : Forest) → Valids ts levels → content p ts ≡ None → (c : Content) × (more (node 0xa0 ts) none ≡ contentParts c)
-content-of levels p ts v e =
-    let f = field-none octetTags (list (is 4) free) nothing p ts e in
+content_of_lem : (levels p : ℕ) (ts : Forest) → Valids ts levels → content p ts ≡ None → (c : Content) × (more (node 0xa0 ts) none ≡ content_parts c)
+content_of_lem levels p ts v e =
+    let f = field_none octet_tags (list (is 4) free) nothing p ts e in
     let w : Valids (more f.tree f.rest) levels = subst (λ (x : Forest). Valids x levels) f.whole v in
     by f w.0 (either_true (eqb (tag_of f.tree) 4) (eqb (tag_of f.tree) 0x24) f.tagged)
   where
-    by : (f : First octetTags (list (is 4) free) nothing p ts) → Valid f.tree levels → (eqb (tag_of f.tree) 4 ≡ true) ⊎ (eqb (tag_of f.tree) 0x24 ≡ true) →
-        (c : Content) × (more (node 0xa0 ts) none ≡ contentParts c)
+    by : (f : First octet_tags (list (is 4) free) nothing p ts) → Valid f.tree levels → (eqb (tag_of f.tree) 4 ≡ true) ⊎ (eqb (tag_of f.tree) 0x24 ≡ true) →
+        (c : Content) × (more (node 0xa0 ts) none ≡ content_parts c)
     by f w (inl g) =
-        let l = leaf-of 4 levels f.tree refl w g in
+        let l = leaf_of 4 levels f.tree refl w g in
         let a₁ = f.whole in
         let a₂ = l.1 in
-        let a₃ : f.rest ≡ none = nothing-none _ f.rest f.behind in
+        let a₃ : f.rest ≡ none = nothing_none _ f.rest f.behind in
         (plain l.0, cc)
     by f w (inr g) =
         let n = node_of 0x24 levels f.tree (λ z. omega arith) w g in
-        let ms = entries segmentTree (λ _. Unit {0}) (is 4) free (levels - 1) (segment-of (levels - 1)) (p + headSize f.tree) n.0 n.2
-        (ap (λ (x : Tree). list (is 4) free (p + headSize f.tree) (parts_of x)) (sym n.1) ∙ f.inside) in
+        let ms = entries segment_tree (λ _. Unit {0}) (is 4) free (levels - 1) (segment_of (levels - 1)) (p + head_size f.tree) n.0 n.2
+        (ap (λ (x : Tree). list (is 4) free (p + head_size f.tree) (parts_of x)) (sym n.1) ∙ f.inside) in
         let a₁ = f.whole in
         let a₂ = n.1 in
         let a₃ = ms.2 in
-        let a₄ : f.rest ≡ none = nothing-none _ f.rest f.behind in
+        let a₄ : f.rest ≡ none = nothing_none _ f.rest f.behind in
         (segmented ms.0, cc)
 
 -- a content info, by the setting
 pub record Info (form : ContentForm) (ts : Forest) : Type 0 where
-  pub contentType : List ℕ
+  pub content_type_of : List ℕ
   pub content : Content
-  pub whole : ts ≡ more (leaf 6 contentType) (contentParts content)
-  pub shape : ContentShape form contentType content
+  pub whole : ts ≡ more (leaf 6 content_type_of) (content_parts content)
+  pub shape : ContentShape form content_type_of content
 
-info-of : (form : ContentForm) (levels p : ℕ) (ts : Forest) → Valids ts levels → contentInfo form p ts ≡ None → Info form ts
-info-of Any levels p ts v e =
+info_of_lem : (form : ContentForm) (levels p : ℕ) (ts : Forest) → Valids ts levels → content_info form p ts ≡ None → Info form ts
+info_of_lem Any levels p ts v e =
     let f = leaf_first 6 free (optional (is 0xa0) content nothing) p levels ts v refl e in
-    let c = by f (node-maybe 0xa0 content nothing f.after levels f.rest f.valids bit-a0 f.behind) in
+    let c = by f (node_maybe 0xa0 content nothing f.after levels f.rest f.valids bit_a0 f.behind) in
     let a₁ = f.whole in
     let a₂ = c.1 in
-    record { contentType = f.body; content = c.0; whole = cc; shape = tt }
+    record { content_type_of = f.body; content = c.0; whole = cc; shape = tt }
   where
-    by : (f : LeafFirst 6 (optional (is 0xa0) content nothing) levels ts) → (nothing f.after f.rest ≡ None) ⊎ NodeFirst 0xa0 content nothing levels f.rest → (c : Content) × (f.rest ≡ contentParts c)
-    by f (inl q) = (detached, nothing-none f.after f.rest q)
+    by : (f : LeafFirst 6 (optional (is 0xa0) content nothing) levels ts) → (nothing f.after f.rest ≡ None) ⊎ NodeFirst 0xa0 content nothing levels f.rest → (c : Content) × (f.rest ≡ content_parts c)
+    by f (inl q) = (detached, nothing_none f.after f.rest q)
     by f (inr g) =
-        let c = content-of (levels - 1) g.at g.parts g.valid g.inside in
+        let c = content_of_lem (levels - 1) g.at g.parts g.valid g.inside in
         let a₁ = g.whole in
-        let a₂ : g.rest ≡ none = nothing-none g.after g.rest g.behind in
+        let a₂ : g.rest ≡ none = nothing_none g.after g.rest g.behind in
         let a₃ = c.1 in
         (c.0, cc)
-info-of TimeStampInfo levels p ts v e =
-    let c = leaf-chosen 6 byContentType p levels ts v refl e in
-    by c (named_by timeStampInfoId (field (is 0xa0) (field (is 4) free nothing) nothing) c.body c.at c.after c.rest c.behind)
+info_of_lem TimeStampInfo levels p ts v e =
+    let c = leaf_chosen 6 by_content_type p levels ts v refl e in
+    by c (named_by time_stamp_info_id (field (is 0xa0) (field (is 4) free nothing) nothing) c.body c.at c.after c.rest c.behind)
   where
-    by : (c : LeafChosen 6 byContentType levels ts) → (c.body ≡ timeStampInfoId) × (field (is 0xa0) (field (is 4) free nothing) nothing c.after c.rest ≡ None) → Info TimeStampInfo ts
+    by : (c : LeafChosen 6 by_content_type levels ts) → (c.body ≡ time_stamp_info_id) × (field (is 0xa0) (field (is 4) free nothing) nothing c.after c.rest ≡ None) → Info TimeStampInfo ts
     by c (b, r) =
-        let f = node-first 0xa0 (field (is 4) free nothing) nothing c.after levels c.rest c.valids bit-a0 r in
+        let f = node_first 0xa0 (field (is 4) free nothing) nothing c.after levels c.rest c.valids bit_a0 r in
         let l = leaf_first 4 free nothing f.at (levels - 1) f.parts f.valid refl f.inside in
         let a₁ = c.whole in
         let a₂ = f.whole in
         let a₃ = l.whole in
-        let a₄ : l.rest ≡ none = nothing-none l.after l.rest l.behind in
-        let a₅ : f.rest ≡ none = nothing-none f.after f.rest f.behind in
-        record { contentType = c.body; content = plain l.body; whole = cc; shape = (b, tt) }
+        let a₄ : l.rest ≡ none = nothing_none l.after l.rest l.behind in
+        let a₅ : f.rest ≡ none = nothing_none f.after f.rest f.behind in
+        record { content_type_of = c.body; content = plain l.body; whole = cc; shape = (b, tt) }
 
 -- elements with allowed tags
-allowed_of : (tags : Tags) (levels q : ℕ) (t : Tree) → Valid t levels → tags (tag_of t) ≡ true → free q (parts_of t) ≡ None →
+allowed_of_lem : (tags : Tags) (levels q : ℕ) (t : Tree) → Valid t levels → tags (tag_of t) ≡ true → free q (parts_of t) ≡ None →
     (m : Tree) × (tags (tag_of m) ≡ true) × (t ≡ m)
-allowed_of tags levels q t v g e = (t, g, refl)
+allowed_of_lem tags levels q t v g e = (t, g, refl)
 
 -- a list of elements in a field that may be there
 pub record ListMaybe (tag : ℕ) (tags : Tags) (next : Rule) (levels : ℕ) (ts : Forest) : Type 0 where
@@ -118,14 +118,14 @@ pub record ListMaybe (tag : ℕ) (tags : Tags) (next : Rule) (levels : ℕ) (ts 
   pub behind : next after rest ≡ None
   pub valids : Valids rest levels
 
-list-maybe : (tag : ℕ) (tags : Tags) (next : Rule) (levels p : ℕ) (ts : Forest) → Valids ts levels → (bit_and tag 32 ≡ 0 → ⊥) →
+list_maybe : (tag : ℕ) (tags : Tags) (next : Rule) (levels p : ℕ) (ts : Forest) → Valids ts levels → (bit_and tag 32 ≡ 0 → ⊥) →
     optional (is tag) (list tags free) next p ts ≡ None → ListMaybe tag tags next levels ts
-list-maybe tag tags next levels p ts v c e = by (node-maybe tag (list tags free) next p levels ts v c e)
+list_maybe tag tags next levels p ts v c e = by (node_maybe tag (list tags free) next p levels ts v c e)
   where
     by : (next p ts ≡ None) ⊎ NodeFirst tag (list tags free) next levels ts → ListMaybe tag tags next levels ts
     by (inl q) = record { entries = None; rest = ts; allowed = tt; whole = refl; after = p; behind = q; valids = v }
     by (inr f) =
-        let ms = entries (λ t. t) (λ t. tags (tag_of t) ≡ true) tags free (levels - 1) (allowed_of tags (levels - 1)) f.at f.parts f.valid f.inside in
+        let ms = entries (λ t. t) (λ t. tags (tag_of t) ≡ true) tags free (levels - 1) (allowed_of_lem tags (levels - 1)) f.at f.parts f.valid f.inside in
         record {
           entries = Some ms.0;
           rest = f.rest;
@@ -137,54 +137,54 @@ list-maybe tag tags next levels p ts v c e = by (node-maybe tag (list tags free)
         }
 
 -- signers, as many as the setting wants
-signers-of : (count : SignerCount) (levels p : ℕ) (ts : Forest) → Valids ts levels → signersBy count p ts ≡ None →
-    (ss : List Signer) × All SignerShape ss × SignersShape count ss × (ts ≡ row_of signerTree ss)
-signers-of AtLeastOne levels p ts v e = some-entries signerTree SignerShape (is 0x30) signer levels (signer-of levels) p ts v e
-signers-of ExactlyOne levels p ts v e =
-    let f = field-none (is 0x30) signer nothing p ts e in
+signers_of_lem : (count : SignerCount) (levels p : ℕ) (ts : Forest) → Valids ts levels → signers_by count p ts ≡ None →
+    (ss : List Signer) × All SignerShape ss × SignersShape count ss × (ts ≡ row_of signer_tree ss)
+signers_of_lem AtLeastOne levels p ts v e = some_entries signer_tree SignerShape (is 0x30) signer levels (signer_of_lem levels) p ts v e
+signers_of_lem ExactlyOne levels p ts v e =
+    let f = field_none (is 0x30) signer nothing p ts e in
     let w : Valids (more f.tree f.rest) levels = subst (λ (x : Forest). Valids x levels) f.whole v in
-    let s = signer-of levels (p + headSize f.tree) f.tree w.0 f.tagged f.inside in
+    let s = signer_of_lem levels (p + head_size f.tree) f.tree w.0 f.tagged f.inside in
     let a₁ = f.whole in
     let a₂ = s.2 in
-    let a₃ : f.rest ≡ none = nothing-none _ f.rest f.behind in
+    let a₃ : f.rest ≡ none = nothing_none _ f.rest f.behind in
     (s.0 ∷ [], (s.1, tt), refl, cc)
-signers-of Nobody levels p ts v e = ([], tt, refl, nothing-none p ts e)
+signers_of_lem Nobody levels p ts v e = ([], tt, refl, nothing_none p ts e)
 
 -- the fields of signed data, put together
-assembled : (v : ℕ) (ts r₁ r₂ r₃ r₄ r₅ digests info parts : Forest) (contentType : List ℕ) (c : Content) (cs rs : Option (List Tree)) (ss : List Signer) →
-    ts ≡ more (node 0x31 digests) r₁ → r₁ ≡ more (node 0x30 info) r₂ → info ≡ more (leaf 6 contentType) (contentParts c) →
-    r₂ ≡ maybe certificatesTree cs r₃ → r₃ ≡ maybe revocationsTree rs r₄ → r₄ ≡ more (node 0x31 parts) r₅ → parts ≡ row_of signerTree ss → r₅ ≡ none →
-    node 0x30 (more (leaf 2 (v ∷ [])) ts) ≡ signedDataTree (record {
+assembled : (v : ℕ) (ts r₁ r₂ r₃ r₄ r₅ digests info parts : Forest) (content_type_of : List ℕ) (c : Content) (cs rs : Option (List Tree)) (ss : List Signer) →
+    ts ≡ more (node 0x31 digests) r₁ → r₁ ≡ more (node 0x30 info) r₂ → info ≡ more (leaf 6 content_type_of) (content_parts c) →
+    r₂ ≡ maybe certificates_tree cs r₃ → r₃ ≡ maybe revocations_tree rs r₄ → r₄ ≡ more (node 0x31 parts) r₅ → parts ≡ row_of signer_tree ss → r₅ ≡ none →
+    node 0x30 (more (leaf 2 (v ∷ [])) ts) ≡ signed_data_tree (record {
       version = v;
       digests = digests;
-      contentType = contentType;
+      content_type_of = content_type_of;
       content = c;
       certificates = cs;
       revocations = rs;
       signers = ss;
     })
-assembled v ts r₁ r₂ r₃ r₄ r₅ digests info parts contentType c cs rs ss a₁ a₂ a₃ a₄ a₅ a₆ a₇ a₈ = cc
+assembled v ts r₁ r₂ r₃ r₄ r₅ digests info parts content_type_of c cs rs ss a₁ a₂ a₃ a₄ a₅ a₆ a₇ a₈ = cc
 
 -- the contents of signed data, behind the version
 pub record Fields (settings : Settings) (ts : Forest) : Type 0 where
   pub file : ℕ → File
-  pub shape : (v : ℕ) → dataVersion v ≡ true → Shape settings (file v)
-  pub whole : (v : ℕ) → node 0x30 (more (leaf 2 (v ∷ [])) ts) ≡ signedDataTree (file v)
+  pub shape : (v : ℕ) → data_version v ≡ true → Shape settings (file v)
+  pub whole : (v : ℕ) → node 0x30 (more (leaf 2 (v ∷ [])) ts) ≡ signed_data_tree (file v)
 
-fields-of : (settings : Settings) (levels p : ℕ) (ts : Forest) → Valids ts levels → dataFields settings p ts ≡ None → Fields settings ts
-fields-of settings levels p ts v e =
-    let f₁ = node-first 0x31 free (field (is 0x30) (contentInfo settings.content) (certificates settings.signers)) p levels ts v bit-31 e in
-    let f₂ = node-first 0x30 (contentInfo settings.content) (certificates settings.signers) f₁.after levels f₁.rest f₁.valids bit-30 f₁.behind in
-    let i = info-of settings.content (levels - 1) f₂.at f₂.parts f₂.valid f₂.inside in
-    let c = list-maybe 0xa0 certificateTags (revocations settings.signers) levels f₂.after f₂.rest f₂.valids bit-a0 f₂.behind in
-    let r = list-maybe 0xa1 revocationTags (signers settings.signers) levels c.after c.rest c.valids bit-a1 c.behind in
-    let f₃ = node-first 0x31 (signersBy settings.signers) nothing r.after levels r.rest r.valids bit-31 r.behind in
-    let ss = signers-of settings.signers (levels - 1) f₃.at f₃.parts f₃.valid f₃.inside in
+fields_of : (settings : Settings) (levels p : ℕ) (ts : Forest) → Valids ts levels → data_fields settings p ts ≡ None → Fields settings ts
+fields_of settings levels p ts v e =
+    let f₁ = node_first 0x31 free (field (is 0x30) (content_info settings.content) (certificates settings.signers)) p levels ts v bit_31 e in
+    let f₂ = node_first 0x30 (content_info settings.content) (certificates settings.signers) f₁.after levels f₁.rest f₁.valids bit_30 f₁.behind in
+    let i = info_of_lem settings.content (levels - 1) f₂.at f₂.parts f₂.valid f₂.inside in
+    let c = list_maybe 0xa0 certificate_tags (revocations settings.signers) levels f₂.after f₂.rest f₂.valids bit_a0 f₂.behind in
+    let r = list_maybe 0xa1 revocation_tags (signers settings.signers) levels c.after c.rest c.valids bit_a1 c.behind in
+    let f₃ = node_first 0x31 (signers_by settings.signers) nothing r.after levels r.rest r.valids bit_31 r.behind in
+    let ss = signers_of_lem settings.signers (levels - 1) f₃.at f₃.parts f₃.valid f₃.inside in
     record {
       file = λ v. record {
         version = v;
         digests = f₁.parts;
-        contentType = i.contentType;
+        content_type_of = i.content_type_of;
         content = i.content;
         certificates = c.entries;
         revocations = r.entries;
@@ -198,67 +198,67 @@ fields-of settings levels p ts v e =
         signers = ss.1;
         count = ss.2;
       };
-      whole = λ v. assembled v ts f₁.rest f₂.rest c.rest r.rest f₃.rest f₁.parts f₂.parts f₃.parts i.contentType i.content c.entries r.entries ss.0
-          f₁.whole f₂.whole i.whole c.whole r.whole f₃.whole ss.3 (nothing-none f₃.after f₃.rest f₃.behind);
+      whole = λ v. assembled v ts f₁.rest f₂.rest c.rest r.rest f₃.rest f₁.parts f₂.parts f₃.parts i.content_type_of i.content c.entries r.entries ss.0
+          f₁.whole f₂.whole i.whole c.whole r.whole f₃.whole ss.3 (nothing_none f₃.after f₃.rest f₃.behind);
     }
 
 -- a version of signed data
-data-version-of : (settings : Settings) (body : List ℕ) (at after : ℕ) (rest : Forest) → follow (byDataVersion settings body) at after rest ≡ None →
-    (v : ℕ) × (body ≡ v ∷ []) × (dataVersion v ≡ true) × (dataFields settings after rest ≡ None)
-data-version-of settings body at after rest e =
+data_version_of : (settings : Settings) (body : List ℕ) (at after : ℕ) (rest : Forest) → follow (by_data_version settings body) at after rest ≡ None →
+    (v : ℕ) × (body ≡ v ∷ []) × (data_version v ≡ true) × (data_fields settings after rest ≡ None)
+data_version_of settings body at after rest e =
     by (one 1 body || (one 3 body || (one 4 body || one 5 body))) refl e
   where
-    pick : (one 1 body || (one 3 body || (one 4 body || one 5 body))) ≡ true → (v : ℕ) × (body ≡ v ∷ []) × (dataVersion v ≡ true)
+    pick : (one 1 body || (one 3 body || (one 4 body || one 5 body))) ≡ true → (v : ℕ) × (body ≡ v ∷ []) × (data_version v ≡ true)
     pick q = first (either_true (one 1 body) _ q)
       where
-        last : (one 4 body ≡ true) ⊎ (one 5 body ≡ true) → (v : ℕ) × (body ≡ v ∷ []) × (dataVersion v ≡ true)
-        last (inl q) = (4, one-is 4 body q, refl)
-        last (inr q) = (5, one-is 5 body q, refl)
+        last : (one 4 body ≡ true) ⊎ (one 5 body ≡ true) → (v : ℕ) × (body ≡ v ∷ []) × (data_version v ≡ true)
+        last (inl q) = (4, one_is 4 body q, refl)
+        last (inr q) = (5, one_is 5 body q, refl)
 
-        second : (one 3 body ≡ true) ⊎ ((one 4 body || one 5 body) ≡ true) → (v : ℕ) × (body ≡ v ∷ []) × (dataVersion v ≡ true)
-        second (inl q) = (3, one-is 3 body q, refl)
+        second : (one 3 body ≡ true) ⊎ ((one 4 body || one 5 body) ≡ true) → (v : ℕ) × (body ≡ v ∷ []) × (data_version v ≡ true)
+        second (inl q) = (3, one_is 3 body q, refl)
         second (inr q) = last (either_true (one 4 body) (one 5 body) q)
 
-        first : (one 1 body ≡ true) ⊎ ((one 3 body || (one 4 body || one 5 body)) ≡ true) → (v : ℕ) × (body ≡ v ∷ []) × (dataVersion v ≡ true)
-        first (inl q) = (1, one-is 1 body q, refl)
+        first : (one 1 body ≡ true) ⊎ ((one 3 body || (one 4 body || one 5 body)) ≡ true) → (v : ℕ) × (body ≡ v ∷ []) × (data_version v ≡ true)
+        first (inl q) = (1, one_is 1 body q, refl)
         first (inr q) = second (either_true (one 3 body) _ q)
 
-    by : (b : Bool) → (one 1 body || (one 3 body || (one 4 body || one 5 body))) ≡ b → follow (cond b (Some (dataFields settings)) None) at after rest ≡ None →
-        (v : ℕ) × (body ≡ v ∷ []) × (dataVersion v ≡ true) × (dataFields settings after rest ≡ None)
+    by : (b : Bool) → (one 1 body || (one 3 body || (one 4 body || one 5 body))) ≡ b → follow (cond b (Some (data_fields settings)) None) at after rest ≡ None →
+        (v : ℕ) × (body ≡ v ∷ []) × (data_version v ≡ true) × (data_fields settings after rest ≡ None)
     by true q e = let p = pick q in (p.0, p.1, p.2, e)
-    by false q e = absurd (some-not-none at e)
+    by false q e = absurd (some_not_none at e)
 
 -- the contents of the signed data
-data_of : (settings : Settings) (levels p : ℕ) (parts : Forest) → Valids parts levels → signedData settings p parts ≡ None →
-    (f : File) × Shape settings f × (node 0x30 parts ≡ signedDataTree f)
+data_of : (settings : Settings) (levels p : ℕ) (parts : Forest) → Valids parts levels → signed_data settings p parts ≡ None →
+    (f : File) × Shape settings f × (node 0x30 parts ≡ signed_data_tree f)
 data_of settings levels p parts v e =
-    let c = leaf-chosen 2 (byDataVersion settings) p levels parts v refl e in
-    let d = data-version-of settings c.body c.at c.after c.rest c.behind in
-    let f = fields-of settings levels c.after c.rest c.valids d.3 in (
+    let c = leaf_chosen 2 (by_data_version settings) p levels parts v refl e in
+    let d = data_version_of settings c.body c.at c.after c.rest c.behind in
+    let f = fields_of settings levels c.after c.rest c.valids d.3 in (
       f.file d.0,
       f.shape d.0 d.2,
       ap (λ (x : Forest). node 0x30 x) (c.whole ∙ ap (λ (x : List ℕ). more (leaf 2 x) c.rest) d.1) ∙ f.whole d.0,
     )
 
 wrapped : (t : Tree) (parts r₁ r₂ inner r₃ data' : Forest) (body : List ℕ) (f : File) →
-    t ≡ node 0x30 parts → parts ≡ more (leaf 6 body) r₁ → body ≡ signedDataId → r₁ ≡ more (node 0xa0 inner) r₂ → r₂ ≡ none →
-    inner ≡ more (node 0x30 data') r₃ → r₃ ≡ none → node 0x30 data' ≡ signedDataTree f → t ≡ fileTree f
+    t ≡ node 0x30 parts → parts ≡ more (leaf 6 body) r₁ → body ≡ signed_data_id → r₁ ≡ more (node 0xa0 inner) r₂ → r₂ ≡ none →
+    inner ≡ more (node 0x30 data') r₃ → r₃ ≡ none → node 0x30 data' ≡ signed_data_tree f → t ≡ file_tree f
 wrapped t parts r₁ r₂ inner r₃ data' body f a₁ a₂ a₃ a₄ a₅ a₆ a₇ a₈ = cc
 
-pub no-break-is-file : (settings : Settings) (place levels : ℕ) (t : Tree) → Valid t levels → firstBreak settings place t [] ≡ None →
-    (f : File) × Shape settings f × (t ≡ fileTree f)
-no-break-is-file settings place levels t v e =
-    let q = cond-none (is 0x30 (tag_of t)) _ place e in
-    let n = node_of 0x30 levels t bit-30 v q.0 in
-    let m : message settings (place + headSize t) n.0 ≡ None =
-    ap (λ (x : Tree). message settings (place + headSize t) (parts_of x)) (sym n.1) ∙ (or-none _ _ q.1).0 in
-    let c = leaf-chosen 6 (byIdentifier settings) (place + headSize t) (levels - 1) n.0 n.2 refl m in
-    let i = named_by signedDataId (messageFields settings) c.body c.at c.after c.rest c.behind in
-    let f₁ = node-first 0xa0 (field (is 0x30) (signedData settings) nothing) nothing c.after (levels - 1) c.rest c.valids bit-a0 i.1 in
-    let f₂ = node-first 0x30 (signedData settings) nothing f₁.at (levels - 1 - 1) f₁.parts f₁.valid bit-30 f₁.inside in
+pub no_break_is_file : (settings : Settings) (place levels : ℕ) (t : Tree) → Valid t levels → first_break settings place t [] ≡ None →
+    (f : File) × Shape settings f × (t ≡ file_tree f)
+no_break_is_file settings place levels t v e =
+    let q = cond_none (is 0x30 (tag_of t)) _ place e in
+    let n = node_of 0x30 levels t bit_30 v q.0 in
+    let m : message settings (place + head_size t) n.0 ≡ None =
+    ap (λ (x : Tree). message settings (place + head_size t) (parts_of x)) (sym n.1) ∙ (or_none _ _ q.1).0 in
+    let c = leaf_chosen 6 (by_identifier settings) (place + head_size t) (levels - 1) n.0 n.2 refl m in
+    let i = named_by signed_data_id (message_fields settings) c.body c.at c.after c.rest c.behind in
+    let f₁ = node_first 0xa0 (field (is 0x30) (signed_data settings) nothing) nothing c.after (levels - 1) c.rest c.valids bit_a0 i.1 in
+    let f₂ = node_first 0x30 (signed_data settings) nothing f₁.at (levels - 1 - 1) f₁.parts f₁.valid bit_30 f₁.inside in
     let d = data_of settings (levels - 1 - 1 - 1) f₂.at f₂.parts f₂.valid f₂.inside in (
       d.0,
       d.1,
       wrapped t n.0 c.rest f₁.rest f₁.parts f₂.rest f₂.parts c.body d.0 n.1 c.whole i.0 f₁.whole
-          (nothing-none f₁.after f₁.rest f₁.behind) f₂.whole (nothing-none f₂.after f₂.rest f₂.behind) d.2,
+          (nothing_none f₁.after f₁.rest f₁.behind) f₂.whole (nothing_none f₂.after f₂.rest f₂.behind) d.2,
     )

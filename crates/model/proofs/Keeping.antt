@@ -5,18 +5,18 @@ use Rattle.std.specs.Str.{bytes_eq}
 use Rattle.std.proofs.lemmas.Slice.Eq.{bytes_eq-Decides}
 use Rattle.der.specs.Trees.{Tree, leaf, node, Forest, none, more, Valid, tag_of}
 use Rattle.fields.specs.Reads.{is}
-use Rattle.cms.specs.Records.{certificateTags, revocationTags, octetTags}
-use Rattle.cms.specs.Identifiers.{signedDataId, timeStampInfoId}
+use Rattle.cms.specs.Records.{certificate_tags, revocation_tags, octet_tags}
+use Rattle.cms.specs.Identifiers.{signed_data_id, time_stamp_info_id}
 use Rattle.cms.specs.declared.settings.SignerCount.{SignerCount}
 use Rattle.cms.specs.declared.settings.SignerCount.TheVariants.{AtLeastOne, ExactlyOne, Nobody}
 use Rattle.cms.specs.declared.settings.ContentForm.{ContentForm}
 use Rattle.cms.specs.declared.settings.ContentForm.TheVariants.{Any, TimeStampInfo}
 use Rattle.cms.specs.declared.settings.Settings.{Settings}
-use Rattle.fields.specs.Rules.{parts_of, headSize, bodySize, or_else, Tags, Rule, nothing, free, field, optional, list, some, choose, follow, one}
-use Rattle.cms.specs.Grammar.{any, attribute, unsignedAttributes, fromSigned, signerFields, signer, signersBy, signers, revocations, certificates, content, byContentType, contentInfo, dataFields, byDataVersion, signedData, messageFields, message, firstBreak}
-use Rattle.model.specs.Parts.{row_of, row, maybe, Attribute, attributeTree, Identifier, issuer, key, Signer, unsignedTree, signerTree, Content, detached, plain, segmented, segmentTree, contentParts}
-use Rattle.model.specs.Files.{File, certificatesTree, revocationsTree, contentInfoTree, signersTree, signedDataTree, fileTree}
-use Rattle.model.specs.Shapes.{AttributeShape, UnsignedShape, SignerShape, SignersShape, IfThere, AllowedTags, IsPlain, ContentShape, dataVersion, Shape}
+use Rattle.fields.specs.Rules.{parts_of, head_size, body_size, or_else, Tags, Rule, nothing, free, field, optional, list, some, choose, follow, one}
+use Rattle.cms.specs.Grammar.{any, attribute, unsigned_attributes, from_signed, signer_fields, signer, signers_by, signers, revocations, certificates, content, by_content_type, content_info, data_fields, by_data_version, signed_data, message_fields, message, first_break}
+use Rattle.model.specs.Parts.{row_of, row, maybe, Attribute, attribute_tree, Identifier, issuer, key, Signer, unsigned_tree, signer_tree, Content, detached, plain, segmented, segment_tree, content_parts}
+use Rattle.model.specs.Files.{File, certificates_tree, revocations_tree, content_info_tree, signers_tree, signed_data_tree, file_tree}
+use Rattle.model.specs.Shapes.{AttributeShape, UnsignedShape, SignerShape, SignersShape, IfThere, AllowedTags, IsPlain, ContentShape, data_version, Shape}
 
 both : (a b : Option ℕ) → a ≡ None → b ≡ None → or_else a b ≡ None
 both a b p q = ap (λ (x : Option ℕ). or_else x b) p ∙ q
@@ -26,87 +26,87 @@ taken b x p t e = ap (λ (c : Bool). cond c x (Some p)) t ∙ e
 
 module _ {M : Type 0} (tree : M → Tree) (Keeps : M → Type 0) (tags : Tags) (inner : Rule)
     (tagged : (m : M) → Keeps m → tags (tag_of (tree m)) ≡ true) (kept : (q : ℕ) (m : M) → Keeps m → inner q (parts_of (tree m)) ≡ None) where
-  list-row : (p : ℕ) (ms : List M) → All Keeps ms → list tags inner p (row_of tree ms) ≡ None
-  list-row p [] a = refl
-  list-row p (m ∷ ms) (k, a) = taken _ _ p (tagged m k) (both _ _ (kept (p + headSize (tree m)) m k) (list-row (p + headSize (tree m) + bodySize (tree m)) ms a))
+  list_row : (p : ℕ) (ms : List M) → All Keeps ms → list tags inner p (row_of tree ms) ≡ None
+  list_row p [] a = refl
+  list_row p (m ∷ ms) (k, a) = taken _ _ p (tagged m k) (both _ _ (kept (p + head_size (tree m)) m k) (list_row (p + head_size (tree m) + body_size (tree m)) ms a))
 
-  some-row : (p : ℕ) (ms : List M) → All Keeps ms → 0 < length ms → some tags inner p (row_of tree ms) ≡ None
-  some-row p [] a l = absurd (omega arith)
-  some-row p (m ∷ ms) (k, a) l = taken _ _ p (tagged m k) (both _ _ (kept (p + headSize (tree m)) m k) (list-row (p + headSize (tree m) + bodySize (tree m)) ms a))
+  some_row : (p : ℕ) (ms : List M) → All Keeps ms → 0 < length ms → some tags inner p (row_of tree ms) ≡ None
+  some_row p [] a l = absurd (omega arith)
+  some_row p (m ∷ ms) (k, a) l = taken _ _ p (tagged m k) (both _ _ (kept (p + head_size (tree m)) m k) (list_row (p + head_size (tree m) + body_size (tree m)) ms a))
 
-any-values : (p : ℕ) (vs : List Tree) → list any free p (row vs) ≡ None
-any-values p [] = refl
-any-values p (v ∷ vs) = any-values (p + headSize v + bodySize v) vs
+any_values : (p : ℕ) (vs : List Tree) → list any free p (row vs) ≡ None
+any_values p [] = refl
+any_values p (v ∷ vs) = any_values (p + head_size v + body_size v) vs
 
-some-values : (p : ℕ) (vs : List Tree) → 0 < length vs → some any free p (row vs) ≡ None
-some-values p [] l = absurd (omega arith)
-some-values p (v ∷ vs) l = any-values _ vs
+some_values : (p : ℕ) (vs : List Tree) → 0 < length vs → some any free p (row vs) ≡ None
+some_values p [] l = absurd (omega arith)
+some_values p (v ∷ vs) l = any_values _ vs
 
-pub attribute-kept : (q : ℕ) (a : Attribute) → AttributeShape a → attribute q (parts_of (attributeTree a)) ≡ None
-attribute-kept q a l = both _ _ (some-values _ a.values l) refl
+pub attribute_kept : (q : ℕ) (a : Attribute) → AttributeShape a → attribute q (parts_of (attribute_tree a)) ≡ None
+attribute_kept q a l = both _ _ (some_values _ a.values l) refl
 
-pub attributes-kept : (p : ℕ) (ms : List Attribute) → All AttributeShape ms → list (is 0x30) attribute p (row_of attributeTree ms) ≡ None
-attributes-kept p ms a = list-row attributeTree AttributeShape (is 0x30) attribute (λ m k. refl) attribute-kept p ms a
+pub attributes_kept : (p : ℕ) (ms : List Attribute) → All AttributeShape ms → list (is 0x30) attribute p (row_of attribute_tree ms) ≡ None
+attributes_kept p ms a = list_row attribute_tree AttributeShape (is 0x30) attribute (λ m k. refl) attribute_kept p ms a
 
-pub unsigned-kept : (p : ℕ) (u : Option (List Attribute)) → IfThere UnsignedShape u → unsignedAttributes p (maybe unsignedTree u none) ≡ None
-unsigned-kept p None k = refl
-unsigned-kept p (Some ms) k = both _ _ (some-row attributeTree AttributeShape (is 0x30) attribute (λ m k. refl) attribute-kept _ ms k.each k.least) refl
+pub unsigned_kept : (p : ℕ) (u : Option (List Attribute)) → IfThere UnsignedShape u → unsigned_attributes p (maybe unsigned_tree u none) ≡ None
+unsigned_kept p None k = refl
+unsigned_kept p (Some ms) k = both _ _ (some_row attribute_tree AttributeShape (is 0x30) attribute (λ m k. refl) attribute_kept _ ms k.each k.least) refl
 
-pub signer-kept : (q : ℕ) (s : Signer) → SignerShape s → signer q (parts_of (signerTree s)) ≡ None
-signer-kept q s k = by s.identifier
+pub signer_kept : (q : ℕ) (s : Signer) → SignerShape s → signer q (parts_of (signer_tree s)) ≡ None
+signer_kept q s k = by s.identifier
   where
-    by : (i : Identifier) → signer q (parts_of (signerTree (record { identifier = i; digest = s.digest; signed = s.signed; algorithm = s.algorithm; signature = s.signature; unsigned = s.unsigned }))) ≡ None
-    by (issuer parts) = both _ _ (attributes-kept _ s.signed k.signed) (unsigned-kept _ s.unsigned k.unsigned)
-    by (key bytes) = both _ _ (attributes-kept _ s.signed k.signed) (unsigned-kept _ s.unsigned k.unsigned)
+    by : (i : Identifier) → signer q (parts_of (signer_tree (record { identifier = i; digest = s.digest; signed = s.signed; algorithm = s.algorithm; signature = s.signature; unsigned = s.unsigned }))) ≡ None
+    by (issuer parts) = both _ _ (attributes_kept _ s.signed k.signed) (unsigned_kept _ s.unsigned k.unsigned)
+    by (key bytes) = both _ _ (attributes_kept _ s.signed k.signed) (unsigned_kept _ s.unsigned k.unsigned)
 
-signers-kept : (count : SignerCount) (p : ℕ) (ss : List Signer) → All SignerShape ss → SignersShape count ss → signersBy count p (row_of signerTree ss) ≡ None
-signers-kept AtLeastOne p ss a l = some-row signerTree SignerShape (is 0x30) signer (λ m k. refl) signer-kept p ss a l
-signers-kept ExactlyOne p [] a l = absurd (omega arith)
-signers-kept ExactlyOne p (s ∷ []) a l = both _ _ (signer-kept _ s a.0) refl
-signers-kept ExactlyOne p (s ∷ t ∷ ss) a l = absurd (omega arith)
-signers-kept Nobody p [] a l = refl
-signers-kept Nobody p (s ∷ ss) a l = absurd (let z : ◌≡◌ {A = ℕ} 0 1 = cc in omega arith)
+signers_kept : (count : SignerCount) (p : ℕ) (ss : List Signer) → All SignerShape ss → SignersShape count ss → signers_by count p (row_of signer_tree ss) ≡ None
+signers_kept AtLeastOne p ss a l = some_row signer_tree SignerShape (is 0x30) signer (λ m k. refl) signer_kept p ss a l
+signers_kept ExactlyOne p [] a l = absurd (omega arith)
+signers_kept ExactlyOne p (s ∷ []) a l = both _ _ (signer_kept _ s a.0) refl
+signers_kept ExactlyOne p (s ∷ t ∷ ss) a l = absurd (omega arith)
+signers_kept Nobody p [] a l = refl
+signers_kept Nobody p (s ∷ ss) a l = absurd (let z : ◌≡◌ {A = ℕ} 0 1 = cc in omega arith)
 
-segments-kept : (p : ℕ) (segments : List (List ℕ)) → list (is 4) free p (row_of segmentTree segments) ≡ None
-segments-kept p [] = refl
-segments-kept p (s ∷ ss) = segments-kept (p + headSize (segmentTree s) + bodySize (segmentTree s)) ss
+segments_kept : (p : ℕ) (segments : List (List ℕ)) → list (is 4) free p (row_of segment_tree segments) ≡ None
+segments_kept p [] = refl
+segments_kept p (s ∷ ss) = segments_kept (p + head_size (segment_tree s) + body_size (segment_tree s)) ss
 
-content-kept : (p : ℕ) (c : Content) → optional (is 0xa0) content nothing p (contentParts c) ≡ None
-content-kept p detached = refl
-content-kept p (plain bytes) = refl
-content-kept p (segmented segments) = both _ _ (both _ _ (segments-kept _ segments) refl) refl
+content_kept : (p : ℕ) (c : Content) → optional (is 0xa0) content nothing p (content_parts c) ≡ None
+content_kept p detached = refl
+content_kept p (plain bytes) = refl
+content_kept p (segmented segments) = both _ _ (both _ _ (segments_kept _ segments) refl) refl
 
-info-kept : (form : ContentForm) (p : ℕ) (contentType : List ℕ) (c : Content) → ContentShape form contentType c →
-    contentInfo form p (more (leaf 6 contentType) (contentParts c)) ≡ None
-info-kept Any p contentType c k = content-kept _ c
-info-kept TimeStampInfo p contentType detached k = absurd k.1
-info-kept TimeStampInfo p contentType (plain bytes) k =
-    let s : bytes_eq contentType timeStampInfoId ≡ true = (bytes_eq-Decides contentType timeStampInfoId).1 k.0 in
-    ap (λ (b : Bool). follow (cond b (Some (field (is 0xa0) (field (is 4) free nothing) nothing)) None) p (p + headSize (leaf 6 contentType) + bodySize (leaf 6 contentType)) (contentParts (plain bytes))) s
-info-kept TimeStampInfo p contentType (segmented segments) k = absurd k.1
+info_kept : (form : ContentForm) (p : ℕ) (content_type_of : List ℕ) (c : Content) → ContentShape form content_type_of c →
+    content_info form p (more (leaf 6 content_type_of) (content_parts c)) ≡ None
+info_kept Any p content_type_of c k = content_kept _ c
+info_kept TimeStampInfo p content_type_of detached k = absurd k.1
+info_kept TimeStampInfo p content_type_of (plain bytes) k =
+    let s : bytes_eq content_type_of time_stamp_info_id ≡ true = (bytes_eq-Decides content_type_of time_stamp_info_id).1 k.0 in
+    ap (λ (b : Bool). follow (cond b (Some (field (is 0xa0) (field (is 4) free nothing) nothing)) None) p (p + head_size (leaf 6 content_type_of) + body_size (leaf 6 content_type_of)) (content_parts (plain bytes))) s
+info_kept TimeStampInfo p content_type_of (segmented segments) k = absurd k.1
 
-allowed-kept : (tags : Tags) (p : ℕ) (es : List Tree) → AllowedTags tags es → list tags free p (row es) ≡ None
-allowed-kept tags p es a = list-row (λ x. x) (λ x. tags (tag_of x) ≡ true) tags free (λ m k. k) (λ q m k. refl) p es a
+allowed_kept : (tags : Tags) (p : ℕ) (es : List Tree) → AllowedTags tags es → list tags free p (row es) ≡ None
+allowed_kept tags p es a = list_row (λ x. x) (λ x. tags (tag_of x) ≡ true) tags free (λ m k. k) (λ q m k. refl) p es a
 
 -- from the revocations on, and from the certificates on
-revocations-kept : (count : SignerCount) (p : ℕ) (rs : Option (List Tree)) (ss : List Signer) → IfThere (AllowedTags revocationTags) rs → All SignerShape ss → SignersShape count ss →
-    revocations count p (maybe revocationsTree rs (more (node 0x31 (row_of signerTree ss)) none)) ≡ None
-revocations-kept count p None ss k a l = both _ _ (signers-kept count _ ss a l) refl
-revocations-kept count p (Some es) ss k a l = both _ _ (allowed-kept revocationTags _ es k) (both _ _ (signers-kept count _ ss a l) refl)
+revocations_kept : (count : SignerCount) (p : ℕ) (rs : Option (List Tree)) (ss : List Signer) → IfThere (AllowedTags revocation_tags) rs → All SignerShape ss → SignersShape count ss →
+    revocations count p (maybe revocations_tree rs (more (node 0x31 (row_of signer_tree ss)) none)) ≡ None
+revocations_kept count p None ss k a l = both _ _ (signers_kept count _ ss a l) refl
+revocations_kept count p (Some es) ss k a l = both _ _ (allowed_kept revocation_tags _ es k) (both _ _ (signers_kept count _ ss a l) refl)
 
-certificates-kept : (count : SignerCount) (p : ℕ) (cs rs : Option (List Tree)) (ss : List Signer) → IfThere (AllowedTags certificateTags) cs → IfThere (AllowedTags revocationTags) rs →
+certificates_kept : (count : SignerCount) (p : ℕ) (cs rs : Option (List Tree)) (ss : List Signer) → IfThere (AllowedTags certificate_tags) cs → IfThere (AllowedTags revocation_tags) rs →
     All SignerShape ss → SignersShape count ss →
-    certificates count p (maybe certificatesTree cs (maybe revocationsTree rs (more (node 0x31 (row_of signerTree ss)) none))) ≡ None
-certificates-kept count p None None ss j k a l = revocations-kept count p None ss k a l
-certificates-kept count p None (Some es) ss j k a l = revocations-kept count p (Some es) ss k a l
-certificates-kept count p (Some cs) rs ss j k a l = both _ _ (allowed-kept certificateTags _ cs j) (revocations-kept count _ rs ss k a l)
+    certificates count p (maybe certificates_tree cs (maybe revocations_tree rs (more (node 0x31 (row_of signer_tree ss)) none))) ≡ None
+certificates_kept count p None None ss j k a l = revocations_kept count p None ss k a l
+certificates_kept count p None (Some es) ss j k a l = revocations_kept count p (Some es) ss k a l
+certificates_kept count p (Some cs) rs ss j k a l = both _ _ (allowed_kept certificate_tags _ cs j) (revocations_kept count _ rs ss k a l)
 
 -- a version of signed data is one of those that the rule allows
-data-version-kept : (settings : Settings) (v p q : ℕ) (rest : Forest) → dataVersion v ≡ true → dataFields settings q rest ≡ None → follow (byDataVersion settings (v ∷ [])) p q rest ≡ None
-data-version-kept settings v p q rest t e = ap (λ (b : Bool). follow (cond b (Some (dataFields settings)) None) p q rest) t ∙ e
+data_version_kept : (settings : Settings) (v p q : ℕ) (rest : Forest) → data_version v ≡ true → data_fields settings q rest ≡ None → follow (by_data_version settings (v ∷ [])) p q rest ≡ None
+data_version_kept settings v p q rest t e = ap (λ (b : Bool). follow (cond b (Some (data_fields settings)) None) p q rest) t ∙ e
 
-pub file-has-no-break : (settings : Settings) (place levels : ℕ) (f : File) → Shape settings f → Valid (fileTree f) levels → firstBreak settings place (fileTree f) [] ≡ None
-file-has-no-break settings place levels f k v =
-    both _ _ (both _ _ (both _ _ (data-version-kept settings f.version _ _ _ k.version
-    (both _ _ (info-kept settings.content _ f.contentType f.content k.content)
-    (certificates-kept settings.signers _ f.certificates f.revocations f.signers k.certificates k.revocations k.signers k.count))) refl) refl) refl
+pub file_has_no_break : (settings : Settings) (place levels : ℕ) (f : File) → Shape settings f → Valid (file_tree f) levels → first_break settings place (file_tree f) [] ≡ None
+file_has_no_break settings place levels f k v =
+    both _ _ (both _ _ (both _ _ (data_version_kept settings f.version _ _ _ k.version
+    (both _ _ (info_kept settings.content _ f.content_type_of f.content k.content)
+    (certificates_kept settings.signers _ f.certificates f.revocations f.signers k.certificates k.revocations k.signers k.count))) refl) refl) refl

@@ -26,8 +26,8 @@ pub record Attribute : Type 0 where
   pub kind : List ℕ
   pub values : List Tree
 
-abbrev pub attributeTree : Attribute → Tree
-attributeTree a = node 0x30 (more (leaf 6 a.kind) (more (node 0x31 (row a.values)) none))
+abbrev pub attribute_tree : Attribute → Tree
+attribute_tree a = node 0x30 (more (leaf 6 a.kind) (more (node 0x31 (row a.values)) none))
 
 -- a signer is named by issuer and number, or by key
 pub data Identifier : Type 0 where
@@ -35,21 +35,21 @@ pub data Identifier : Type 0 where
   key : List ℕ → Identifier
 
 -- the version goes with the kind of name
-abbrev pub versionTree : Identifier → Tree
-versionTree (issuer parts) = leaf 2 (1 ∷ [])
-versionTree (key bytes) = leaf 2 (3 ∷ [])
+abbrev pub version_tree : Identifier → Tree
+version_tree (issuer parts) = leaf 2 (1 ∷ [])
+version_tree (key bytes) = leaf 2 (3 ∷ [])
 
-abbrev pub identifierTree : Identifier → Tree
-identifierTree (issuer parts) = node 0x30 parts
-identifierTree (key bytes) = leaf 0x80 bytes
+abbrev pub identifier_tree : Identifier → Tree
+identifier_tree (issuer parts) = node 0x30 parts
+identifier_tree (key bytes) = leaf 0x80 bytes
 
 -- an algorithm: its identifier's contents, and what follows
 pub record Algorithm : Type 0 where
   pub name : List ℕ
   pub parameters : Forest
 
-abbrev pub algorithmTree : Algorithm → Tree
-algorithmTree a = node 0x30 (more (leaf 6 a.name) a.parameters)
+abbrev pub algorithm_tree : Algorithm → Tree
+algorithm_tree a = node 0x30 (more (leaf 6 a.name) a.parameters)
 
 -- a signer: six fields (the version is told by the identifier), and unsigned attributes if the field is there
 pub record Signer : Type 0 where
@@ -60,20 +60,20 @@ pub record Signer : Type 0 where
   pub signature : List ℕ
   pub unsigned : Option (List Attribute)
 
-abbrev pub signedTree : List Attribute → Tree
-signedTree attributes = node 0xa0 (row_of attributeTree attributes)
+abbrev pub signed_tree : List Attribute → Tree
+signed_tree attributes = node 0xa0 (row_of attribute_tree attributes)
 
-abbrev pub unsignedTree : List Attribute → Tree
-unsignedTree attributes = node 0xa1 (row_of attributeTree attributes)
+abbrev pub unsigned_tree : List Attribute → Tree
+unsigned_tree attributes = node 0xa1 (row_of attribute_tree attributes)
 
 -- the six fields, and what follows them
-abbrev pub sixFields : Signer → Forest → Forest
-sixFields s rest =
-    more (versionTree s.identifier) (more (identifierTree s.identifier) (more (algorithmTree s.digest)
-    (more (signedTree s.signed) (more (node 0x30 s.algorithm) (more (leaf 4 s.signature) rest)))))
+abbrev pub six_fields : Signer → Forest → Forest
+six_fields s rest =
+    more (version_tree s.identifier) (more (identifier_tree s.identifier) (more (algorithm_tree s.digest)
+    (more (signed_tree s.signed) (more (node 0x30 s.algorithm) (more (leaf 4 s.signature) rest)))))
 
-abbrev pub signerTree : Signer → Tree
-signerTree s = node 0x30 (sixFields s (maybe unsignedTree s.unsigned none))
+abbrev pub signer_tree : Signer → Tree
+signer_tree s = node 0x30 (six_fields s (maybe unsigned_tree s.unsigned none))
 
 -- the content: none, bytes, or bytes in segments
 pub data Content : Type 0 where
@@ -81,10 +81,10 @@ pub data Content : Type 0 where
   plain : List ℕ → Content
   segmented : List (List ℕ) → Content
 
-abbrev pub segmentTree : List ℕ → Tree
-segmentTree bytes = leaf 4 bytes
+abbrev pub segment_tree : List ℕ → Tree
+segment_tree bytes = leaf 4 bytes
 
-abbrev pub contentParts : Content → Forest
-contentParts detached = none
-contentParts (plain bytes) = more (node 0xa0 (more (leaf 4 bytes) none)) none
-contentParts (segmented segments) = more (node 0xa0 (more (node 0x24 (row_of segmentTree segments)) none)) none
+abbrev pub content_parts : Content → Forest
+content_parts detached = none
+content_parts (plain bytes) = more (node 0xa0 (more (leaf 4 bytes) none)) none
+content_parts (segmented segments) = more (node 0xa0 (more (node 0x24 (row_of segment_tree segments)) none)) none

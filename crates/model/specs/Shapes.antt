@@ -2,15 +2,15 @@
 use Rattle.std.specs.Prelude.{◌≡◌, ℕ, ◌<◌, Bool, true, ◌||◌, List, [], length, Some, None, Option, ◌==◌}
 use Rattle.std.specs.List.{AllByRecursion as All}
 use Rattle.der.specs.Trees.{Tree, Valid, tag_of}
-use Rattle.cms.specs.Identifiers.{timeStampInfoId}
-use Rattle.cms.specs.Records.{certificateTags, revocationTags}
+use Rattle.cms.specs.Identifiers.{time_stamp_info_id}
+use Rattle.cms.specs.Records.{certificate_tags, revocation_tags}
 use Rattle.cms.specs.declared.settings.SignerCount.{SignerCount}
 use Rattle.cms.specs.declared.settings.SignerCount.TheVariants.{AtLeastOne, ExactlyOne, Nobody}
 use Rattle.cms.specs.declared.settings.ContentForm.{ContentForm}
 use Rattle.cms.specs.declared.settings.ContentForm.TheVariants.{Any, TimeStampInfo}
 use Rattle.cms.specs.declared.settings.Settings.{Settings}
 use Rattle.model.specs.Parts.{Attribute, Signer, Content, detached, plain, segmented}
-use Rattle.model.specs.Files.{File, fileTree}
+use Rattle.model.specs.Files.{File, file_tree}
 
 abbrev pub IfThere : {M : Type 0} → (M → Type 0) → Option M → Type 0
 IfThere Keeps None = Unit {0}
@@ -44,17 +44,17 @@ IsPlain (segmented segments) = ⊥
 
 -- content of any type and kind, or plain content of the type of time-stamp tokens
 abbrev pub ContentShape : ContentForm → List ℕ → Content → Type 0
-ContentShape Any contentType content = Unit {0}
-ContentShape TimeStampInfo contentType content = (contentType ≡ timeStampInfoId) × IsPlain content
+ContentShape Any content_type_of content = Unit {0}
+ContentShape TimeStampInfo content_type_of content = (content_type_of ≡ time_stamp_info_id) × IsPlain content
 
-abbrev pub dataVersion : ℕ → Bool
-dataVersion v = v == 1 || (v == 3 || (v == 4 || v == 5))
+abbrev pub data_version : ℕ → Bool
+data_version v = v == 1 || (v == 3 || (v == 4 || v == 5))
 
 -- the shape of a message
 pub record Shape (settings : Settings) (f : File) : Type 0 where
-  pub version : dataVersion f.version ≡ true
-  pub content : ContentShape settings.content f.contentType f.content
-  pub certificates : IfThere (AllowedTags certificateTags) f.certificates
-  pub revocations : IfThere (AllowedTags revocationTags) f.revocations
+  pub version : data_version f.version ≡ true
+  pub content : ContentShape settings.content f.content_type_of f.content
+  pub certificates : IfThere (AllowedTags certificate_tags) f.certificates
+  pub revocations : IfThere (AllowedTags revocation_tags) f.revocations
   pub signers : All SignerShape f.signers
   pub count : SignersShape settings.signers f.signers

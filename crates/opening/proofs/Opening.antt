@@ -2,15 +2,15 @@
 use Rattle.std.proofs.Common.{◌≡◌, ℕ, zero, suc, ◌+◌, ◌-◌, List, [], ◌∷◌, take, Some, None, Ok, Err, Option, Result, sym, refl, ap, ◌∙◌, subst, arith, MatchResult}
 use Rattle.std.specs.List.{slice_get}
 use Rattle.der.specs.Trees.{none, more, Valids}
-use Rattle.fields.specs.Rules.{headSize, bodySize}
-use Rattle.fields.proofs.Standing.{At, first-at}
+use Rattle.fields.specs.Rules.{head_size, body_size}
+use Rattle.fields.proofs.Standing.{At, first_at}
 use Rattle.cms.specs.declared.located.Message.{Message}
 use Rattle.cms.specs.declared.located.Signer.{Signer as Located}
-use Rattle.cms.specs.Places.{signerAt}
-use Rattle.model.specs.Parts.{row_of, Signer, signerTree}
+use Rattle.cms.specs.Places.{signer_at}
+use Rattle.model.specs.Parts.{row_of, Signer, signer_tree}
 use Rattle.model.specs.Files.{File}
-use Rattle.rules.specs.Signers.{Signers, signerNumber}
-use Rattle.rules.proofs.SignerReading.{other-signers}
+use Rattle.rules.specs.Signers.{Signers, signer_number}
+use Rattle.rules.proofs.SignerReading.{other_signers}
 use Rattle.message.specs.Formed.{LiesAt}
 use Rattle.message.specs.Lies.{SignerLies}
 use Rattle.opening.specs.declared.refusal.Refusal.{Refusal}
@@ -18,7 +18,7 @@ use Rattle.opening.specs.declared.refusal.Refusal.TheVariants.{Length, Element, 
 use Rattle.opening.specs.Accepted.{Fits, Accepted}
 use Rattle.opening.specs.Steps.{AcceptedAt, RefusedFile}
 use Rattle.opening.specs.Opened.{Opens, OpensAt, Shut, SignerOpened}
-use Rattle.opening.proofs.Telling.{front-is}
+use Rattle.opening.proofs.Telling.{front_is}
 
 shut_by : (buffer : List ℕ) (n : ℕ) (e : Refusal) → Fits buffer n → RefusedFile (take n buffer) e → Shut buffer n e
 shut_by buffer n Length h r = absurd r
@@ -41,34 +41,34 @@ shut_by buffer n Equal h r = absurd r
 shut_by buffer n Room h r = absurd r
 
 pub opens_by : (buffer : List ℕ) (n : ℕ) (r : Result Message Refusal) → Fits buffer n → MatchResult r (AcceptedAt (take (n - 0) buffer)) (RefusedFile (take (n - 0) buffer)) → MatchResult r (OpensAt buffer n) (Shut buffer n)
-opens_by buffer n (Ok m) h k = (k.0, record { fits = h; accepted = subst (λ (x : List ℕ). Accepted x k.0) (front-is buffer n) k.1 }, k.2)
-opens_by buffer n (Err e) h k = shut_by buffer n e h (subst (λ (x : List ℕ). RefusedFile x e) (front-is buffer n) k)
+opens_by buffer n (Ok m) h k = (k.0, record { fits = h; accepted = subst (λ (x : List ℕ). Accepted x k.0) (front_is buffer n) k.1 }, k.2)
+opens_by buffer n (Err e) h k = shut_by buffer n e h (subst (λ (x : List ℕ). RefusedFile x e) (front_is buffer n) k)
 
 -- a signer by its number lies where it is found
-number-lies : (k levels : ℕ) (file : List ℕ) (at end : ℕ) (ss : List Signer) (x : Located) → Signers levels file at end ss → Some x ≡ signerNumber k at ss →
+number_lies : (k levels : ℕ) (file : List ℕ) (at end : ℕ) (ss : List Signer) (x : Located) → Signers levels file at end ss → Some x ≡ signer_number k at ss →
     (s : Signer) × (slice_get ss k ≡ Some s) × SignerLies file x s
-number-lies k levels file at end [] x r e = absurd (let z : ◌≡◌ {A = ℕ} 0 1 = cc in omega arith)
-number-lies zero levels file at end (s ∷ ss) x r e =
-    let q : signerAt (record { at = at; tree = signerTree s }) ≡ x = some_same (sym e) in (
+number_lies k levels file at end [] x r e = absurd (let z : ◌≡◌ {A = ℕ} 0 1 = cc in omega arith)
+number_lies zero levels file at end (s ∷ ss) x r e =
+    let q : signer_at (record { at = at; tree = signer_tree s }) ≡ x = some_same (sym e) in (
       s,
       refl,
       record {
         levels = levels;
         at = at;
-        stands = first-at levels file at end (signerTree s) (row_of signerTree ss) (record { valid = r.valid; bytes = r.bytes; order = r.order; inside = r.inside });
+        stands = first_at levels file at end (signer_tree s) (row_of signer_tree ss) (record { valid = r.valid; bytes = r.bytes; order = r.order; inside = r.inside });
         located = sym q;
       },
     )
   where
     some_same : {y z : Located} → Some y ≡ Some z → y ≡ z
     some_same p = cc
-number-lies (suc k) levels file at end (s ∷ ss) x r e =
-    number-lies k levels file (at + headSize (signerTree s) + bodySize (signerTree s)) end ss x (other-signers levels file at end s ss r) e
+number_lies (suc k) levels file at end (s ∷ ss) x r e =
+    number_lies k levels file (at + head_size (signer_tree s) + body_size (signer_tree s)) end ss x (other_signers levels file at end s ss r) e
 
-pub signer-opened : (buffer : List ℕ) (n k : ℕ) (file : List ℕ) (levels at end : ℕ) (m : Message) (x : Located) (f : File) → Fits buffer n → Accepted (take n buffer) f → LiesAt m f → file ≡ take n buffer →
-    Signers levels file at end f.signers → Some x ≡ signerNumber k at f.signers → SignerOpened buffer n k (record { message = m; signer = x })
-signer-opened buffer n k file levels at end m x f h a l e r q =
-    let w = number-lies k levels file at end f.signers x r q in
+pub signer_opened : (buffer : List ℕ) (n k : ℕ) (file : List ℕ) (levels at end : ℕ) (m : Message) (x : Located) (f : File) → Fits buffer n → Accepted (take n buffer) f → LiesAt m f → file ≡ take n buffer →
+    Signers levels file at end f.signers → Some x ≡ signer_number k at f.signers → SignerOpened buffer n k (record { message = m; signer = x })
+signer_opened buffer n k file levels at end m x f h a l e r q =
+    let w = number_lies k levels file at end f.signers x r q in
     record {
       file = f;
       signer = w.0;

@@ -5,12 +5,12 @@ use Rattle.cms.specs.declared.settings.SignerCount.TheVariants.{AtLeastOne}
 use Rattle.cms.specs.declared.settings.ContentForm.TheVariants.{Any}
 use Rattle.model.specs.Files.{File}
 use Rattle.message.specs.Formed.{Formed as FormedBy}
-use Rattle.rules.specs.Limits.{firstTooMany}
-use Rattle.rules.specs.Attributes.{brokenRule}
+use Rattle.rules.specs.Limits.{first_too_many_of}
+use Rattle.rules.specs.Attributes.{broken_rule_of}
 
 -- a file has at least one signer, and any content
-abbrev pub fileSettings : Settings
-fileSettings = record { signers = AtLeastOne; content = Any }
+abbrev pub file_settings : Settings
+file_settings = record { signers = AtLeastOne; content = Any }
 
 -- a length that a file in a buffer may have
 pub record Fits (buffer : List ℕ) (n : ℕ) : Type 0 where
@@ -20,10 +20,10 @@ pub record Fits (buffer : List ℕ) (n : ℕ) : Type 0 where
 
 -- the bytes are those of a file by its form, with at most 32 levels
 abbrev pub Formed : List ℕ → File → Type 0
-Formed bytes f = FormedBy fileSettings 32 bytes f
+Formed bytes f = FormedBy file_settings 32 bytes f
 
 -- and it keeps the limits and the rules of attributes
 pub record Accepted (bytes : List ℕ) (f : File) : Type 0 where
   pub formed : Formed bytes f
-  pub limits : firstTooMany f ≡ None
-  pub rules : brokenRule f ≡ None
+  pub limits : first_too_many_of f ≡ None
+  pub rules : broken_rule_of f ≡ None

@@ -4,8 +4,8 @@ use Rattle.model.specs.Files.{File}
 use Rattle.opening.specs.declared.answers.Reading.{Reading}
 use Rattle.opening.specs.declared.refusal.Refusal.{Refusal}
 use Rattle.opening.specs.Accepted.{Fits, Accepted}
-use Rattle.opening.specs.Outcome.{Served, Refused, signerOf}
-use Rattle.opening.specs.Steps.{toldOf}
+use Rattle.opening.specs.Outcome.{Served, Refused, signer_of}
+use Rattle.opening.specs.Steps.{told_of}
 
 -- what `read` may answer
 abbrev pub Outcome : List ℕ → ℕ → ℕ → Result Reading Refusal → Type 0
@@ -15,7 +15,7 @@ Outcome buffer n k r = MatchResult r (Served buffer n k) (Refused buffer n k)
 -- it is served exactly when the signer is there, and refused with 6 when it is not
 abbrev pub Exactly : Type 0
 Exactly = (buffer : List ℕ) (n k : ℕ) (r : Result Reading Refusal) → Outcome buffer n k r → (f : File) → Fits buffer n → Accepted (take n buffer) f →
-    r ≡ toldOf f (signerOf k f.signers)
+    r ≡ told_of f (signer_of k f.signers)
 
 -- bytes are those of one accepted file at most
 abbrev pub OneAccepted : Type 0

@@ -1,6 +1,6 @@
 -- The number, place and cause of each refusal.
 use Rattle.std.specs.Prelude.{ℕ}
-use Rattle.der.specs.Causes.{causeNumber}
+use Rattle.der.specs.Causes.{cause_number}
 use Rattle.opening.specs.declared.refusal.Refusal.{Refusal}
 use Rattle.opening.specs.declared.refusal.Refusal.TheVariants.{Length, Element, Field, Count, Rule, NoSigner, NoList, AddedElement, AddedField, Barred, Content, NoStamp, Malformed, OtherDigest, OtherImprint, NoElement, Equal, Room}
 
@@ -46,22 +46,22 @@ place_of Equal = 0
 place_of Room = 0
 
 -- and so is the cause
-abbrev pub causeOf : Refusal → ℕ
-causeOf Length = 0
-causeOf (Element f) = causeNumber f.cause
-causeOf (Field p) = 0
-causeOf (Count p) = 0
-causeOf (Rule p) = 0
-causeOf NoSigner = 0
-causeOf NoList = 0
-causeOf (AddedElement f) = causeNumber f.cause
-causeOf (AddedField p) = 0
-causeOf Barred = 0
-causeOf Content = 0
-causeOf NoStamp = 0
-causeOf Malformed = 0
-causeOf OtherDigest = 0
-causeOf OtherImprint = 0
-causeOf NoElement = 0
-causeOf Equal = 0
-causeOf Room = 0
+abbrev pub cause_of : Refusal → ℕ
+cause_of Length = 0
+cause_of (Element f) = cause_number f.cause
+cause_of (Field p) = 0
+cause_of (Count p) = 0
+cause_of (Rule p) = 0
+cause_of NoSigner = 0
+cause_of NoList = 0
+cause_of (AddedElement f) = cause_number f.cause
+cause_of (AddedField p) = 0
+cause_of Barred = 0
+cause_of Content = 0
+cause_of NoStamp = 0
+cause_of Malformed = 0
+cause_of OtherDigest = 0
+cause_of OtherImprint = 0
+cause_of NoElement = 0
+cause_of Equal = 0
+cause_of Room = 0

@@ -2,10 +2,10 @@
 use Rattle.std.specs.Prelude.{◌≡◌, ℕ, List, Some, None, Ok, Err, Option, Result}
 use Rattle.der.specs.Faults.{InElement}
 use Rattle.cms.specs.declared.located.Message.{Message}
-use Rattle.cms.specs.Places.{messageAt}
-use Rattle.model.specs.Files.{File, fileTree}
-use Rattle.rules.specs.Attributes.{brokenRule}
-use Rattle.rules.specs.Limits.{firstTooMany}
+use Rattle.cms.specs.Places.{message_at}
+use Rattle.model.specs.Files.{File, file_tree}
+use Rattle.rules.specs.Attributes.{broken_rule_of}
+use Rattle.rules.specs.Limits.{first_too_many_of}
 use Rattle.model.specs.Parts.{Signer}
 use Rattle.message.specs.declared.fault.MessageFault.{MessageFault}
 use Rattle.message.specs.declared.fault.MessageFault.TheVariants.{Element as Misformed, Field as Misfield, Count as Overfull}
@@ -13,26 +13,26 @@ use Rattle.message.specs.Formed.{BrokenAt}
 use Rattle.opening.specs.declared.answers.Reading.{Reading}
 use Rattle.opening.specs.declared.refusal.Refusal.{Refusal}
 use Rattle.opening.specs.declared.refusal.Refusal.TheVariants.{Length, Element, Field, Count, Rule, NoSigner, NoList, AddedElement, AddedField, Barred, Content, NoStamp, Malformed, OtherDigest, OtherImprint, NoElement, Equal, Room}
-use Rattle.opening.specs.Accepted.{fileSettings, Formed, Accepted}
+use Rattle.opening.specs.Accepted.{file_settings, Formed, Accepted}
 use Rattle.opening.specs.Outcome.{reading_of}
 
 -- the refusal of a file whose form is at fault
-abbrev pub refusalOf : MessageFault → Refusal
-refusalOf (Misformed fault) = Element fault
-refusalOf (Misfield p) = Field p
-refusalOf (Overfull p) = Count p
+abbrev pub refusal_of : MessageFault → Refusal
+refusal_of (Misformed fault) = Element fault
+refusal_of (Misfield p) = Field p
+refusal_of (Overfull p) = Count p
 
 -- the bytes are an accepted file, whose parts lie where the record says
 abbrev pub AcceptedAt : List ℕ → Message → Type 0
-AcceptedAt file m = (f : File) × Accepted file f × (m ≡ messageAt 0 (fileTree f))
+AcceptedAt file m = (f : File) × Accepted file f × (m ≡ message_at 0 (file_tree f))
 
 -- why bytes are no accepted file
 abbrev pub RefusedFile : List ℕ → Refusal → Type 0
 RefusedFile file Length = ⊥
 RefusedFile file (Element fault) = InElement 32 file 0 fault
-RefusedFile file (Field p) = BrokenAt fileSettings 32 file p
-RefusedFile file (Count p) = (f : File) × Formed file f × (firstTooMany f ≡ Some p)
-RefusedFile file (Rule p) = (f : File) × Formed file f × (firstTooMany f ≡ None) × (brokenRule f ≡ Some p)
+RefusedFile file (Field p) = BrokenAt file_settings 32 file p
+RefusedFile file (Count p) = (f : File) × Formed file f × (first_too_many_of f ≡ Some p)
+RefusedFile file (Rule p) = (f : File) × Formed file f × (first_too_many_of f ≡ None) × (broken_rule_of f ≡ Some p)
 RefusedFile file NoSigner = ⊥
 RefusedFile file NoList = ⊥
 RefusedFile file (AddedElement f) = ⊥
@@ -48,6 +48,6 @@ RefusedFile file Equal = ⊥
 RefusedFile file Room = ⊥
 
 -- what is told of a signer that may be there
-abbrev pub toldOf : File → Option Signer → Result Reading Refusal
-toldOf f None = Err NoSigner
-toldOf f (Some s) = Ok (reading_of f s)
+abbrev pub told_of : File → Option Signer → Result Reading Refusal
+told_of f None = Err NoSigner
+told_of f (Some s) = Ok (reading_of f s)

@@ -1,6 +1,6 @@
 //! The number, place and cause of a refusal.
 ghost use Rattle.std.specs.Prelude.{◌≡◌};
-ghost use Rattle.opening.specs.Numbers.{number_of, place_of, causeOf};
+ghost use Rattle.opening.specs.Numbers.{number_of, place_of, cause_of};
 
 use crate::refusal::Refusal;
 
@@ -46,7 +46,7 @@ impl Refusal {
 
     /// The number of the element's cause; 0 where there is none.
     pub fn cause(self) -> u8
-        ensures { result ≡ causeOf self }
+        ensures { result ≡ cause_of self }
     {
         match self {
             Refusal::Element(fault) | Refusal::AddedElement(fault) => fault.cause.number(),

@@ -1,14 +1,14 @@
 //! Reading a file.
 ghost use Rattle.std.specs.Prelude.{◌≡◌, ℕ, length, MatchResult};
-ghost use Rattle.model.specs.Files.{File, fileTree};
-ghost use Rattle.cms.specs.Places.{messageAt};
-ghost use Rattle.opening.specs.Accepted.{fileSettings};
-ghost use Rattle.opening.specs.Outcome.{Served, Refused, reading_of, signerOf};
+ghost use Rattle.model.specs.Files.{File, file_tree};
+ghost use Rattle.cms.specs.Places.{message_at};
+ghost use Rattle.opening.specs.Accepted.{file_settings};
+ghost use Rattle.opening.specs.Outcome.{Served, Refused, reading_of, signer_of};
 ghost use Rattle.model.specs.Parts.{Signer as Person};
 ghost use Rattle.rules.specs.Signers.{SignerThere};
-ghost use Rattle.opening.specs.Steps.{refusalOf, AcceptedAt, RefusedFile, toldOf};
-ghost use Rattle.message.specs.Lies.{Lies, entriesCount};
-ghost use Rattle.rules.specs.Attributes.{brokenRule};
+ghost use Rattle.opening.specs.Steps.{refusal_of, AcceptedAt, RefusedFile, told_of};
+ghost use Rattle.message.specs.Lies.{Lies, entries_count};
+ghost use Rattle.rules.specs.Attributes.{broken_rule_of};
 
 use crate::answers::Reading;
 use crate::refusal::Refusal;
@@ -26,7 +26,7 @@ const LEVELS: u8 = 32;
 
 /// The refusal of a file whose form is at fault.
 fn refuse(fault: MessageFault) -> Refusal
-    ensures { result ≡ refusalOf fault }
+    ensures { result ≡ refusal_of fault }
 {
     match fault {
         MessageFault::Element(fault) => Refusal::Element(fault),
@@ -37,7 +37,7 @@ fn refuse(fault: MessageFault) -> Refusal
 
 /// The settings of a file.
 fn settings() -> Settings
-    ensures { result ≡ fileSettings }
+    ensures { result ≡ file_settings }
 {
     Settings {
         signers: SignerCount::AtLeastOne,
@@ -58,7 +58,7 @@ pub(crate) fn signers_of<'a>(file: &'a [u8], message: &Message) -> Reader<'a>
 
 /// The place of the first rule of attributes that a file breaks.
 fn broken_rule(file: &[u8], message: &Message) -> Option<usize>
-    ensures { (f : File) → Lies file.now message.now f → result ≡ brokenRule f }
+    ensures { (f : File) → Lies file.now message.now f → result ≡ broken_rule_of f }
 {
     let content_type = Element {
         bytes: file,
@@ -83,7 +83,7 @@ pub(crate) fn accept(file: &[u8]) -> Result<Message, Refusal>
 
 /// How many entries a list has; an absent one has none.
 fn count_of(list: Option<Entries>) -> usize
-    ensures { result ≡ entriesCount list }
+    ensures { result ≡ entries_count list }
 {
     match list {
         None => 0,
@@ -106,7 +106,7 @@ fn tell(file: &[u8], message: &Message, signer: Signer) -> Reading
 
 /// What is told of a signer, by its number, of an accepted file.
 fn tell_number(file: &[u8], message: &Message, number: usize) -> Result<Reading, Refusal>
-    ensures { (f : File) → Lies file.now message.now f → result ≡ toldOf f (signerOf number f.signers) }
+    ensures { (f : File) → Lies file.now message.now f → result ≡ told_of f (signer_of number f.signers) }
 {
     match find_signer(signers_of(file, message), number) {
         None => Err(Refusal::NoSigner),

@@ -3,12 +3,12 @@ use Rattle.std.specs.Prelude.{◌≡◌, ℕ, List, [], ◌∷◌, ◌++◌, len
 use Rattle.opening.specs.Outcome.{Served, Refused as RefusedBy}
 use Rattle.plan_line.specs.declared.line.Line.{Line}
 use Rattle.plan_line.specs.declared.line.Line.TheVariants.{Form, Refused}
-use Rattle.plan_line.specs.Words.{toldText, turnedText}
+use Rattle.plan_line.specs.Words.{told_text, turned_text}
 
 -- a line and its end
-abbrev pub lineText : Line → List ℕ
-lineText (Form t) = toldText t.0 ++ 10 ∷ []
-lineText (Refused t) = turnedText t.0 ++ 10 ∷ []
+abbrev pub line_text : Line → List ℕ
+line_text (Form t) = told_text t.0 ++ 10 ∷ []
+line_text (Refused t) = turned_text t.0 ++ 10 ∷ []
 
 -- what is told of a file: what `read` answers of its first signer
 abbrev pub Tells : List ℕ → Line → Type 0
@@ -17,4 +17,4 @@ Tells file (Refused t) = RefusedBy file (length file) 0 t.0
 
 -- the text that is printed of a file
 abbrev pub LineOf : List ℕ → List ℕ → Type 0
-LineOf file text = (l : Line) × Tells file l × (text ≡ lineText l)
+LineOf file text = (l : Line) × Tells file l × (text ≡ line_text l)

@@ -1,6 +1,6 @@
 //! One line for a file.
 ghost use Rattle.std.specs.Prelude.{◌≡◌, IfOk, Some, string_bytes};
-ghost use Rattle.plan_line.specs.Lines.{lineText, Tells, LineOf};
+ghost use Rattle.plan_line.specs.Lines.{line_text, Tells, LineOf};
 
 use super::told::{Told, Turned};
 use archive::read;
@@ -33,7 +33,7 @@ pub fn tell_form(heap: Global, file: &[u8]) -> Result<String, AllocError>
 
 /// What is told, with a line end after it.
 impl fmt::Display for Line {
-    ghost output = { λ l. Some (lineText l) };
+    ghost output = { λ l. Some (line_text l) };
 
     fn fmt<W: fmt::Write>(&self, f: &mut fmt::Formatter<W>) -> fmt::Result {
         match self {

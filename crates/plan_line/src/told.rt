@@ -1,6 +1,6 @@
 //! What is told, as text.
 ghost use Rattle.std.specs.Prelude.{◌≡◌, [], ◌∷◌, Some};
-ghost use Rattle.plan_line.specs.Words.{letterOf, flagOf, toldText, turnedText};
+ghost use Rattle.plan_line.specs.Words.{letter_of, flag_of, told_text, turned_text};
 
 use archive::{Reading, Refusal};
 use rules::Form;
@@ -19,7 +19,7 @@ pub struct Turned(pub Refusal);
 struct Letter(Form);
 
 impl fmt::Display for Letter {
-    ghost output = { λ l. Some (letterOf l.0 ∷ []) };
+    ghost output = { λ l. Some (letter_of l.0 ∷ []) };
 
     fn fmt<W: fmt::Write>(&self, f: &mut fmt::Formatter<W>) -> fmt::Result {
         match self.0 {
@@ -37,7 +37,7 @@ impl fmt::Display for Letter {
 struct Flag(bool);
 
 impl fmt::Display for Flag {
-    ghost output = { λ p. Some (flagOf p.0 ∷ []) };
+    ghost output = { λ p. Some (flag_of p.0 ∷ []) };
 
     fn fmt<W: fmt::Write>(&self, f: &mut fmt::Formatter<W>) -> fmt::Result {
         if self.0 {
@@ -50,7 +50,7 @@ impl fmt::Display for Flag {
 
 /// As `form T policy 1 signers 1 certificates 2 revocations 0`.
 impl fmt::Display for Told {
-    ghost output = { λ t. Some (toldText t.0) };
+    ghost output = { λ t. Some (told_text t.0) };
 
     fn fmt<W: fmt::Write>(&self, f: &mut fmt::Formatter<W>) -> fmt::Result {
         let form = Letter(self.0.form);
@@ -67,7 +67,7 @@ impl fmt::Display for Told {
 
 /// As `refused 3 place 2 cause 0`.
 impl fmt::Display for Turned {
-    ghost output = { λ t. Some (turnedText t.0) };
+    ghost output = { λ t. Some (turned_text t.0) };
 
     fn fmt<W: fmt::Write>(&self, f: &mut fmt::Formatter<W>) -> fmt::Result {
         let number = self.0.number();

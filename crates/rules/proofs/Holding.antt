@@ -17,6 +17,6 @@ module _ (kind : AttributeKind) (levels : ℕ) (file : List ℕ) (at end : ℕ) 
   pub missed : names kind t.first.kind ≡ false → holds kind rest ≡ holds kind t.tail
   missed e = one_on false e
 
-pub none-held : (kind : AttributeKind) (levels : ℕ) (file : List ℕ) (at end : ℕ) (rest : List Attribute) → Row levels file at end rest → at ≡ end → false ≡ holds kind rest
-none-held kind levels file at end [] r e = refl
-none-held kind levels file at end (a ∷ rest) r e = absurd (omega (arith, (others levels file at end a rest r).order))
+pub none_held : (kind : AttributeKind) (levels : ℕ) (file : List ℕ) (at end : ℕ) (rest : List Attribute) → Row levels file at end rest → at ≡ end → false ≡ holds kind rest
+none_held kind levels file at end [] r e = refl
+none_held kind levels file at end (a ∷ rest) r e = absurd (omega (arith, (others levels file at end a rest r).order))

@@ -4,39 +4,39 @@ use Rattle.std.specs.Str.{bytes_eq}
 use Rattle.der.specs.Trees.{Tree, leaf, encode, tag_of}
 use Rattle.fields.specs.Reads.{is}
 use Rattle.fields.specs.Rules.{or_else}
-use Rattle.model.specs.Parts.{Attribute, attributeTree, signedTree, unsignedTree, Signer, signerTree}
-use Rattle.model.specs.Files.{File, contentTypeTree, signersTree}
+use Rattle.model.specs.Parts.{Attribute, attribute_tree, signed_tree, unsigned_tree, Signer, signer_tree}
+use Rattle.model.specs.Files.{File, content_type_tree, signers_tree}
 use Rattle.rules.specs.declared.kinds.AttributeKind.{AttributeKind}
 use Rattle.rules.specs.declared.kinds.AttributeKind.TheVariants.{ContentType, MessageDigest, SigningCertificate, SigningCertificateV2, SignaturePolicy}
-use Rattle.rules.specs.Kinds.{kindBytes, signedKinds, unsignedKinds}
-use Rattle.rules.specs.Offsets.{behind, inside, signedAt, unsignedAt, signersAt}
+use Rattle.rules.specs.Kinds.{kind_bytes, signed_kinds, unsigned_kinds}
+use Rattle.rules.specs.Offsets.{behind, inside, signed_at, unsigned_at, signers_at}
 
 -- the identifier is that of the type
 abbrev pub names : AttributeKind → List ℕ → Bool
-names kind name = bytes_eq name (kindBytes kind)
+names kind name = bytes_eq name (kind_bytes kind)
 
-abbrev pub isKind : AttributeKind → Attribute → Bool
-isKind kind a = names kind a.kind
+abbrev pub is_kind : AttributeKind → Attribute → Bool
+is_kind kind a = names kind a.kind
 
 -- the identifier is that of one of these types
-abbrev pub isAmong : List AttributeKind → List ℕ → Bool
-isAmong [] name = false
-isAmong (k ∷ ks) name = names k name || isAmong ks name
+abbrev pub is_among : List AttributeKind → List ℕ → Bool
+is_among [] name = false
+is_among (k ∷ ks) name = names k name || is_among ks name
 
 -- an attribute of the type stands among these
 abbrev pub holds : AttributeKind → List Attribute → Bool
 holds kind [] = false
-holds kind (a ∷ rest) = isKind kind a || holds kind rest
+holds kind (a ∷ rest) = is_kind kind a || holds kind rest
 
 -- there is one value, and it passes a test
-abbrev pub oneValue : (Tree → Bool) → List Tree → Bool
-oneValue test [] = false
-oneValue test (v ∷ []) = test v
-oneValue test (v ∷ w ∷ vs) = false
+abbrev pub one_value : (Tree → Bool) → List Tree → Bool
+one_value test [] = false
+one_value test (v ∷ []) = test v
+one_value test (v ∷ w ∷ vs) = false
 
 -- the value is the file's content type, byte for byte
-abbrev pub isContentType : Tree → Tree → Bool
-isContentType contentType v = bytes_eq (encode v) (encode contentType)
+abbrev pub is_content_type : Tree → Tree → Bool
+is_content_type content_type_of v = bytes_eq (encode v) (encode content_type_of)
 
 -- a signer lacks an attribute: content type, message digest, or both kinds of signing certificate
 abbrev pub lacks : List Attribute → Bool
@@ -49,41 +49,41 @@ again [] before name = false
 again (k ∷ ks) before name = (names k name && holds k before) || again ks before name
 
 -- a signed attribute breaks a rule; `before` are those in front of it
-abbrev pub faultySigned : Tree → List Attribute → Attribute → Bool
-faultySigned contentType before a =
-    isAmong unsignedKinds a.kind
-    || (again signedKinds before a.kind
-    || ((isKind ContentType a && not (oneValue (isContentType contentType) a.values))
-    || (isKind MessageDigest a && not (oneValue (λ v. is 4 (tag_of v)) a.values))))
+abbrev pub faulty_signed : Tree → List Attribute → Attribute → Bool
+faulty_signed content_type_of before a =
+    is_among unsigned_kinds a.kind
+    || (again signed_kinds before a.kind
+    || ((is_kind ContentType a && not (one_value (is_content_type content_type_of) a.values))
+    || (is_kind MessageDigest a && not (one_value (λ v. is 4 (tag_of v)) a.values))))
 
 -- the place of the first faulty one, of attributes from `p` on; `before` are those in front of them
-abbrev pub firstFaulty : (List Attribute → Attribute → Bool) → List Attribute → ℕ → List Attribute → Option ℕ
-firstFaulty faulty before p [] = None
-firstFaulty faulty before p (a ∷ rest) = cond (faulty before a) (Some p) (firstFaulty faulty (before ++ a ∷ []) (behind p (attributeTree a)) rest)
+abbrev pub first_faulty : (List Attribute → Attribute → Bool) → List Attribute → ℕ → List Attribute → Option ℕ
+first_faulty faulty before p [] = None
+first_faulty faulty before p (a ∷ rest) = cond (faulty before a) (Some p) (first_faulty faulty (before ++ a ∷ []) (behind p (attribute_tree a)) rest)
 
 -- an attribute that may stand only among signed ones
 abbrev pub misplaced : Attribute → Bool
-misplaced a = isAmong signedKinds a.kind
+misplaced a = is_among signed_kinds a.kind
 
 -- the place of the first attribute that passes a test
-abbrev pub firstWith : (Attribute → Bool) → ℕ → List Attribute → Option ℕ
-firstWith test p [] = None
-firstWith test p (a ∷ rest) = cond (test a) (Some p) (firstWith test (behind p (attributeTree a)) rest)
+abbrev pub first_with : (Attribute → Bool) → ℕ → List Attribute → Option ℕ
+first_with test p [] = None
+first_with test p (a ∷ rest) = cond (test a) (Some p) (first_with test (behind p (attribute_tree a)) rest)
 
-abbrev pub firstMisplaced : ℕ → Option (List Attribute) → Option ℕ
-firstMisplaced p None = None
-firstMisplaced p (Some attributes) = firstWith misplaced (inside p (unsignedTree attributes)) attributes
+abbrev pub first_misplaced_of : ℕ → Option (List Attribute) → Option ℕ
+first_misplaced_of p None = None
+first_misplaced_of p (Some attributes) = first_with misplaced (inside p (unsigned_tree attributes)) attributes
 
 -- the place of the first broken rule of the signer that begins at `p`: the signer itself where an attribute is lacking
-abbrev pub brokenBy : Tree → ℕ → Signer → Option ℕ
-brokenBy contentType p s =
+abbrev pub broken_told_by : Tree → ℕ → Signer → Option ℕ
+broken_told_by content_type_of p s =
     cond (lacks s.signed) (Some p)
-    (or_else (firstFaulty (faultySigned contentType) [] (inside (signedAt p s) (signedTree s.signed)) s.signed) (firstMisplaced (unsignedAt p s) s.unsigned))
+    (or_else (first_faulty (faulty_signed content_type_of) [] (inside (signed_at p s) (signed_tree s.signed)) s.signed) (first_misplaced_of (unsigned_at p s) s.unsigned))
 
-abbrev pub firstBroken : Tree → ℕ → List Signer → Option ℕ
-firstBroken contentType p [] = None
-firstBroken contentType p (s ∷ ss) = or_else (brokenBy contentType p s) (firstBroken contentType (behind p (signerTree s)) ss)
+abbrev pub first_broken_of : Tree → ℕ → List Signer → Option ℕ
+first_broken_of content_type_of p [] = None
+first_broken_of content_type_of p (s ∷ ss) = or_else (broken_told_by content_type_of p s) (first_broken_of content_type_of (behind p (signer_tree s)) ss)
 
 -- the place of the first broken rule of a file
-abbrev pub brokenRule : File → Option ℕ
-brokenRule f = firstBroken (contentTypeTree f) (inside (signersAt f) (signersTree f)) f.signers
+abbrev pub broken_rule_of : File → Option ℕ
+broken_rule_of f = first_broken_of (content_type_tree f) (inside (signers_at f) (signers_tree f)) f.signers

@@ -12,27 +12,27 @@ abbrev smime : ℕ → List ℕ
 smime n = pkcs9 ++ (0x10 ∷ 0x02 ∷ n ∷ [])
 
 -- the contents of the identifier of each type
-abbrev pub kindBytes : AttributeKind → List ℕ
-kindBytes ContentType = pkcs9 ++ (0x03 ∷ [])
-kindBytes MessageDigest = pkcs9 ++ (0x04 ∷ [])
-kindBytes SigningCertificate = smime 0x0c
-kindBytes SigningCertificateV2 = smime 0x2f
-kindBytes SignaturePolicy = smime 0x0f
-kindBytes SignatureTimeStamp = smime 0x0e
-kindBytes CertificateReferences = smime 0x15
-kindBytes RevocationReferences = smime 0x16
-kindBytes CertificateValues = smime 0x17
-kindBytes RevocationValues = smime 0x18
-kindBytes CompleteTimeStamp = smime 0x19
-kindBytes ReferencesTimeStamp = smime 0x1a
-kindBytes ArchiveStamp = 0x04 ∷ 0x00 ∷ 0x8d ∷ 0x45 ∷ 0x02 ∷ 0x04 ∷ []
+abbrev pub kind_bytes : AttributeKind → List ℕ
+kind_bytes ContentType = pkcs9 ++ (0x03 ∷ [])
+kind_bytes MessageDigest = pkcs9 ++ (0x04 ∷ [])
+kind_bytes SigningCertificate = smime 0x0c
+kind_bytes SigningCertificateV2 = smime 0x2f
+kind_bytes SignaturePolicy = smime 0x0f
+kind_bytes SignatureTimeStamp = smime 0x0e
+kind_bytes CertificateReferences = smime 0x15
+kind_bytes RevocationReferences = smime 0x16
+kind_bytes CertificateValues = smime 0x17
+kind_bytes RevocationValues = smime 0x18
+kind_bytes CompleteTimeStamp = smime 0x19
+kind_bytes ReferencesTimeStamp = smime 0x1a
+kind_bytes ArchiveStamp = 0x04 ∷ 0x00 ∷ 0x8d ∷ 0x45 ∷ 0x02 ∷ 0x04 ∷ []
 
 -- the types that stand only among signed attributes, each at most once
-abbrev pub signedKinds : List AttributeKind
-signedKinds = ContentType ∷ MessageDigest ∷ SigningCertificate ∷ SigningCertificateV2 ∷ SignaturePolicy ∷ []
+abbrev pub signed_kinds : List AttributeKind
+signed_kinds = ContentType ∷ MessageDigest ∷ SigningCertificate ∷ SigningCertificateV2 ∷ SignaturePolicy ∷ []
 
 -- the types that stand only among unsigned attributes
-abbrev pub unsignedKinds : List AttributeKind
-unsignedKinds =
+abbrev pub unsigned_kinds : List AttributeKind
+unsigned_kinds =
     SignatureTimeStamp ∷ CertificateReferences ∷ RevocationReferences ∷ CertificateValues ∷ RevocationValues
     ∷ CompleteTimeStamp ∷ ReferencesTimeStamp ∷ ArchiveStamp ∷ []

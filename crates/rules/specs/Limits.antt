@@ -2,43 +2,43 @@
 use Rattle.std.specs.Prelude.{ℕ, zero, suc, ◌+◌, List, [], ◌∷◌, Some, None, Option}
 use Rattle.der.specs.Trees.{Tree, Forest, none, more}
 use Rattle.fields.specs.Rules.{or_else}
-use Rattle.model.specs.Parts.{row, row_of, attributeTree, Attribute, signedTree, unsignedTree, Signer, signerTree}
-use Rattle.model.specs.Files.{File, certificatesTree, revocationsTree, signersTree}
-use Rattle.rules.specs.Offsets.{behind, inside, signedAt, unsignedAt, certificatesAt, revocationsAt, signersAt}
+use Rattle.model.specs.Parts.{row, row_of, attribute_tree, Attribute, signed_tree, unsigned_tree, Signer, signer_tree}
+use Rattle.model.specs.Files.{File, certificates_tree, revocations_tree, signers_tree}
+use Rattle.rules.specs.Offsets.{behind, inside, signed_at, unsigned_at, certificates_at, revocations_at, signers_at}
 
 -- the place of the element that stands behind the first n
-abbrev pub tooMany : ℕ → ℕ → Forest → Option ℕ
-tooMany n p none = None
-tooMany zero p (more t ts) = Some p
-tooMany (suc n) p (more t ts) = tooMany n (behind p t) ts
+abbrev pub too_many_of : ℕ → ℕ → Forest → Option ℕ
+too_many_of n p none = None
+too_many_of zero p (more t ts) = Some p
+too_many_of (suc n) p (more t ts) = too_many_of n (behind p t) ts
 
 -- at most 64 in the lists of a file and of a signer, and 8 signers
-abbrev pub mostEntries : ℕ
-mostEntries = 64
+abbrev pub most_entries : ℕ
+most_entries = 64
 
-abbrev pub mostSigners : ℕ
-mostSigners = 8
+abbrev pub most_signers : ℕ
+most_signers = 8
 
 -- in a list whose field, if it is there, begins at `p`
-abbrev pub tooManyIn : {M : Type 0} → (M → Tree) → (List M → Tree) → ℕ → Option (List M) → Option ℕ
-tooManyIn tree field p None = None
-tooManyIn tree field p (Some ms) = tooMany mostEntries (inside p (field ms)) (row_of tree ms)
+abbrev pub too_many_in : {M : Type 0} → (M → Tree) → (List M → Tree) → ℕ → Option (List M) → Option ℕ
+too_many_in tree field p None = None
+too_many_in tree field p (Some ms) = too_many_of most_entries (inside p (field ms)) (row_of tree ms)
 
 -- among the attributes of the signer that begins at `p`
-abbrev pub tooManyAttributes : ℕ → Signer → Option ℕ
-tooManyAttributes p s =
-    or_else (tooManyIn attributeTree signedTree (signedAt p s) (Some s.signed))
-    (tooManyIn attributeTree unsignedTree (unsignedAt p s) s.unsigned)
+abbrev pub too_many_attributes : ℕ → Signer → Option ℕ
+too_many_attributes p s =
+    or_else (too_many_in attribute_tree signed_tree (signed_at p s) (Some s.signed))
+    (too_many_in attribute_tree unsigned_tree (unsigned_at p s) s.unsigned)
 
 -- among signers from `p` on, of which n may stand there
-abbrev pub tooManySigners : ℕ → ℕ → List Signer → Option ℕ
-tooManySigners n p [] = None
-tooManySigners zero p (s ∷ ss) = Some p
-tooManySigners (suc n) p (s ∷ ss) = or_else (tooManyAttributes p s) (tooManySigners n (behind p (signerTree s)) ss)
+abbrev pub too_many_signers : ℕ → ℕ → List Signer → Option ℕ
+too_many_signers n p [] = None
+too_many_signers zero p (s ∷ ss) = Some p
+too_many_signers (suc n) p (s ∷ ss) = or_else (too_many_attributes p s) (too_many_signers n (behind p (signer_tree s)) ss)
 
 -- the first element of a file that is one too many, in reading order
-abbrev pub firstTooMany : File → Option ℕ
-firstTooMany f =
-    or_else (tooManyIn (λ t. t) certificatesTree (certificatesAt f) f.certificates)
-    (or_else (tooManyIn (λ t. t) revocationsTree (revocationsAt f) f.revocations)
-    (tooManySigners mostSigners (inside (signersAt f) (signersTree f)) f.signers))
+abbrev pub first_too_many_of : File → Option ℕ
+first_too_many_of f =
+    or_else (too_many_in (λ t. t) certificates_tree (certificates_at f) f.certificates)
+    (or_else (too_many_in (λ t. t) revocations_tree (revocations_at f) f.revocations)
+    (too_many_signers most_signers (inside (signers_at f) (signers_tree f)) f.signers))

@@ -1,17 +1,17 @@
 -- Where the lists of a file stand, told by its parts.
 use Rattle.std.specs.Prelude.{ℕ, ◌+◌, List, [], ◌∷◌, Some, None, Option}
 use Rattle.der.specs.Trees.{Tree, leaf, node, none, more}
-use Rattle.cms.specs.Identifiers.{signedDataId}
-use Rattle.fields.specs.Rules.{headSize, bodySize}
-use Rattle.model.specs.Parts.{versionTree, identifierTree, algorithmTree, signedTree, Signer, signerTree}
-use Rattle.model.specs.Files.{File, certificatesTree, revocationsTree, contentInfoTree, signersTree, signedDataTree, fileTree}
+use Rattle.cms.specs.Identifiers.{signed_data_id}
+use Rattle.fields.specs.Rules.{head_size, body_size}
+use Rattle.model.specs.Parts.{version_tree, identifier_tree, algorithm_tree, signed_tree, Signer, signer_tree}
+use Rattle.model.specs.Files.{File, certificates_tree, revocations_tree, content_info_tree, signers_tree, signed_data_tree, file_tree}
 
 -- the offset behind an element that begins at `p`, and that of its contents
 abbrev pub behind : ℕ → Tree → ℕ
-behind p t = p + headSize t + bodySize t
+behind p t = p + head_size t + body_size t
 
 abbrev pub inside : ℕ → Tree → ℕ
-inside p t = p + headSize t
+inside p t = p + head_size t
 
 -- the offset behind elements back to back
 abbrev pub skip : ℕ → List Tree → ℕ
@@ -19,26 +19,26 @@ skip p [] = p
 skip p (t ∷ ts) = skip (behind p t) ts
 
 -- behind a field that may be there
-abbrev pub skipMaybe : {M : Type 0} → (M → Tree) → ℕ → Option M → ℕ
-skipMaybe tree p None = p
-skipMaybe tree p (Some m) = behind p (tree m)
+abbrev pub skip_maybe : {M : Type 0} → (M → Tree) → ℕ → Option M → ℕ
+skip_maybe tree p None = p
+skip_maybe tree p (Some m) = behind p (tree m)
 
 -- of a signer that begins at `p`: the fields of its signed and of its unsigned attributes
-abbrev pub signedAt : ℕ → Signer → ℕ
-signedAt p s = skip (inside p (signerTree s)) (versionTree s.identifier ∷ identifierTree s.identifier ∷ algorithmTree s.digest ∷ [])
+abbrev pub signed_at : ℕ → Signer → ℕ
+signed_at p s = skip (inside p (signer_tree s)) (version_tree s.identifier ∷ identifier_tree s.identifier ∷ algorithm_tree s.digest ∷ [])
 
-abbrev pub unsignedAt : ℕ → Signer → ℕ
-unsignedAt p s = skip (signedAt p s) (signedTree s.signed ∷ node 0x30 s.algorithm ∷ leaf 4 s.signature ∷ [])
+abbrev pub unsigned_at : ℕ → Signer → ℕ
+unsigned_at p s = skip (signed_at p s) (signed_tree s.signed ∷ node 0x30 s.algorithm ∷ leaf 4 s.signature ∷ [])
 
 -- of a file: the contents of its signed data, and the fields of its lists
-abbrev pub dataAt : File → ℕ
-dataAt f = inside (inside (skip (inside 0 (fileTree f)) (leaf 6 signedDataId ∷ [])) (node 0xa0 (more (signedDataTree f) none))) (signedDataTree f)
+abbrev pub data_at : File → ℕ
+data_at f = inside (inside (skip (inside 0 (file_tree f)) (leaf 6 signed_data_id ∷ [])) (node 0xa0 (more (signed_data_tree f) none))) (signed_data_tree f)
 
-abbrev pub certificatesAt : File → ℕ
-certificatesAt f = skip (dataAt f) (leaf 2 (f.version ∷ []) ∷ node 0x31 f.digests ∷ contentInfoTree f ∷ [])
+abbrev pub certificates_at : File → ℕ
+certificates_at f = skip (data_at f) (leaf 2 (f.version ∷ []) ∷ node 0x31 f.digests ∷ content_info_tree f ∷ [])
 
-abbrev pub revocationsAt : File → ℕ
-revocationsAt f = skipMaybe certificatesTree (certificatesAt f) f.certificates
+abbrev pub revocations_at : File → ℕ
+revocations_at f = skip_maybe certificates_tree (certificates_at f) f.certificates
 
-abbrev pub signersAt : File → ℕ
-signersAt f = skipMaybe revocationsTree (revocationsAt f) f.revocations
+abbrev pub signers_at : File → ℕ
+signers_at f = skip_maybe revocations_tree (revocations_at f) f.revocations

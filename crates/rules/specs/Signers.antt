@@ -5,10 +5,10 @@ use Rattle.der.specs.Spans.{part}
 use Rattle.der.specs.Trees.{Valids, encodes}
 use Rattle.fields.specs.declared.located.Entries.{Entries}
 use Rattle.cms.specs.declared.located.Signer.{Signer as Located}
-use Rattle.cms.specs.Places.{signerAt}
-use Rattle.model.specs.Parts.{Attribute, signedTree, unsignedTree, Signer, signerTree, row_of}
+use Rattle.cms.specs.Places.{signer_at}
+use Rattle.model.specs.Parts.{Attribute, signed_tree, unsigned_tree, Signer, signer_tree, row_of}
 use Rattle.model.specs.Shapes.{SignerShape}
-use Rattle.rules.specs.Offsets.{behind, inside, signedAt, unsignedAt}
+use Rattle.rules.specs.Offsets.{behind, inside, signed_at, unsigned_at}
 use Rattle.rules.specs.Standing.{Row}
 
 -- attributes lie in a field at `p`, if it is there
@@ -21,20 +21,20 @@ FieldThere levels file p at (Some e) (Some ms) = (e.field.body ≡ at ms) × Row
 -- a signer lies where the record says, and begins at `p`
 pub record SignerThere (levels : ℕ) (file : List ℕ) (x : Located) (p : ℕ) (s : Signer) : Type 0 where
   pub start : x.whole.start ≡ p
-  pub from : x.signed.field.body ≡ inside (signedAt p s) (signedTree s.signed)
+  pub from : x.signed.field.body ≡ inside (signed_at p s) (signed_tree s.signed)
   pub signed : Row levels file x.signed.field.body x.signed.field.end s.signed
-  pub unsigned : FieldThere levels file p (λ ms. inside (unsignedAt p s) (unsignedTree ms)) x.unsigned s.unsigned
+  pub unsigned : FieldThere levels file p (λ ms. inside (unsigned_at p s) (unsigned_tree ms)) x.unsigned s.unsigned
 
 -- these signers stand from `at` to `end`
 pub record Signers (levels : ℕ) (file : List ℕ) (at end : ℕ) (ss : List Signer) : Type 0 where
-  pub valid : Valids (row_of signerTree ss) levels
+  pub valid : Valids (row_of signer_tree ss) levels
   pub shape : All SignerShape ss
-  pub bytes : part file at end ≡ encodes (row_of signerTree ss)
+  pub bytes : part file at end ≡ encodes (row_of signer_tree ss)
   pub order : at ≤ end
   pub inside : end ≤ length file
 
 -- where signer n lies, of signers from `p` on
-abbrev pub signerNumber : ℕ → ℕ → List Signer → Option Located
-signerNumber n p [] = None
-signerNumber zero p (s ∷ ss) = Some (signerAt (record { at = p; tree = signerTree s }))
-signerNumber (suc n) p (s ∷ ss) = signerNumber n (behind p (signerTree s)) ss
+abbrev pub signer_number : ℕ → ℕ → List Signer → Option Located
+signer_number n p [] = None
+signer_number zero p (s ∷ ss) = Some (signer_at (record { at = p; tree = signer_tree s }))
+signer_number (suc n) p (s ∷ ss) = signer_number n (behind p (signer_tree s)) ss

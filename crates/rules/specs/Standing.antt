@@ -6,14 +6,14 @@ use Rattle.der.specs.declared.span.Span.{Span}
 use Rattle.der.specs.Trees.{Tree, Forest, Valids, encodes}
 use Rattle.fields.specs.Placed.{located}
 use Rattle.cms.specs.declared.located.Attribute.{Attribute as Located}
-use Rattle.model.specs.Parts.{Attribute, attributeTree, row_of, row}
+use Rattle.model.specs.Parts.{Attribute, attribute_tree, row_of, row}
 use Rattle.model.specs.Shapes.{AttributeShape}
 
 -- these attributes stand from `at` to `end`
 pub record Row (levels : ℕ) (file : List ℕ) (at end : ℕ) (ms : List Attribute) : Type 0 where
-  pub valid : Valids (row_of attributeTree ms) levels
+  pub valid : Valids (row_of attribute_tree ms) levels
   pub shape : All AttributeShape ms
-  pub bytes : part file at end ≡ encodes (row_of attributeTree ms)
+  pub bytes : part file at end ≡ encodes (row_of attribute_tree ms)
   pub order : at ≤ end
   pub inside : end ≤ length file
 
@@ -25,10 +25,10 @@ pub record Trees (levels : ℕ) (file : List ℕ) (at end : ℕ) (ts : Forest) :
   pub inside : end ≤ length file
 
 -- where the one element lies that begins at `p`
-abbrev pub singleAt : ℕ → List Tree → Option Span
-singleAt p [] = None
-singleAt p (t ∷ []) = Some (located p t)
-singleAt p (t ∷ u ∷ ts) = None
+abbrev pub single_at : ℕ → List Tree → Option Span
+single_at p [] = None
+single_at p (t ∷ []) = Some (located p t)
+single_at p (t ∷ u ∷ ts) = None
 
 -- an attribute lies where the record says: its type, and its values in their field
 pub record There (levels : ℕ) (file : List ℕ) (x : Located) (a : Attribute) : Type 0 where

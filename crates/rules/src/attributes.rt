@@ -1,14 +1,14 @@
 //! Attributes of a signer, looked through one by one.
 ghost use Rattle.std.specs.Prelude.{◌≡◌, ℕ, not, ◌&&◌, List, [], length};
 ghost use Rattle.std.specs.List.{AllByRecursion as All};
-ghost use Rattle.model.specs.Parts.{Attribute as Part, attributeTree, row_of};
+ghost use Rattle.model.specs.Parts.{Attribute as Part, attribute_tree, row_of};
 ghost use Rattle.model.specs.Shapes.{AttributeShape};
-ghost use Rattle.rules.specs.Attributes.{holds as Holds, lacks as Lacks, names, isAmong, again, oneValue, isContentType, faultySigned, firstFaulty, firstWith, misplaced};
-ghost use Rattle.rules.specs.Kinds.{signedKinds, unsignedKinds};
+ghost use Rattle.rules.specs.Attributes.{holds as Holds, lacks as Lacks, names, is_among, again, one_value, is_content_type, faulty_signed, first_faulty, first_with, misplaced};
+ghost use Rattle.rules.specs.Kinds.{signed_kinds, unsigned_kinds};
 ghost use Rattle.der.specs.Trees.{Tree, encode, tag_of};
 ghost use Rattle.fields.specs.Reads.{is};
 ghost use Rattle.model.specs.Parts.{row};
-ghost use Rattle.rules.specs.Standing.{Row, Trees as At, singleAt, There};
+ghost use Rattle.rules.specs.Standing.{Row, Trees as At, single_at, There};
 
 use crate::kinds::AttributeKind;
 use cms::{Attribute, read_attribute};
@@ -47,7 +47,7 @@ pub(crate) fn lacks(signed: Reader) -> bool
 
 /// Whether the type stands only among signed attributes.
 pub(crate) fn is_signed_only(name: &[u8]) -> bool
-    ensures { result ≡ isAmong signedKinds name.now }
+    ensures { result ≡ is_among signed_kinds name.now }
 {
     AttributeKind::ContentType.names(name)
         | (AttributeKind::MessageDigest.names(name)
@@ -58,7 +58,7 @@ pub(crate) fn is_signed_only(name: &[u8]) -> bool
 
 /// Whether the type stands only among unsigned attributes.
 pub(crate) fn is_unsigned_only(name: &[u8]) -> bool
-    ensures { result ≡ isAmong unsignedKinds name.now }
+    ensures { result ≡ is_among unsigned_kinds name.now }
 {
     let stamps = AttributeKind::CompleteTimeStamp.names(name)
         | (AttributeKind::ReferencesTimeStamp.names(name)
@@ -79,7 +79,7 @@ fn repeats(before: Reader, name: &[u8], kind: AttributeKind) -> bool
 
 /// Whether an attribute with this type stands a second time, where it may stand once.
 pub(crate) fn stands_again(before: Reader, name: &[u8]) -> bool
-    ensures { (levels : ℕ) (ms : List Part) → Row levels before.entry.bytes.now before.entry.at before.entry.end ms → result ≡ again signedKinds ms name.now }
+    ensures { (levels : ℕ) (ms : List Part) → Row levels before.entry.bytes.now before.entry.at before.entry.end ms → result ≡ again signed_kinds ms name.now }
 {
     repeats(before, name, AttributeKind::ContentType)
         | (repeats(before, name, AttributeKind::MessageDigest)
@@ -91,7 +91,7 @@ pub(crate) fn stands_again(before: Reader, name: &[u8]) -> bool
 /// Where the one value of an attribute lies; none where there are more.
 pub(crate) fn single_value(reader: &Reader, values: Entries) -> Option<Span>
     ensures { (levels : ℕ) (vs : List Tree) → At levels reader.now.bytes.now values.field.body values.field.end (row vs) → values.count ≡ length vs
-        → result ≡ singleAt values.field.body vs }
+        → result ≡ single_at values.field.body vs }
 {
     if values.count != 1 {
         return None;
@@ -110,7 +110,7 @@ pub(crate) fn single_value(reader: &Reader, values: Entries) -> Option<Span>
 /// Whether the one value of a content-type attribute fails to be the file's content type, byte for byte.
 fn lacks_content_type(reader: &Reader, values: Entries, content_type: &[u8]) -> bool
     ensures { (levels : ℕ) (vs : List Tree) (expected : Tree) → At levels reader.now.bytes.now values.field.body values.field.end (row vs) → values.count ≡ length vs
-        → content_type.now ≡ encode expected → result ≡ not (oneValue (isContentType expected) vs) }
+        → content_type.now ≡ encode expected → result ≡ not (one_value (is_content_type expected) vs) }
 {
     match single_value(reader, values) {
         None => true,
@@ -127,7 +127,7 @@ fn lacks_content_type(reader: &Reader, values: Entries, content_type: &[u8]) -> 
 /// Whether the one value of a message-digest attribute fails to be an octet string.
 fn lacks_octets(reader: &Reader, values: Entries) -> bool
     ensures { (levels : ℕ) (vs : List Tree) → At levels reader.now.bytes.now values.field.body values.field.end (row vs) → values.count ≡ length vs
-        → result ≡ not (oneValue (λ v. is 4 (tag_of v)) vs) }
+        → result ≡ not (one_value (λ v. is 4 (tag_of v)) vs) }
 {
     match single_value(reader, values) {
         None => true,
@@ -139,7 +139,7 @@ fn lacks_octets(reader: &Reader, values: Entries) -> bool
 fn is_faulty_signed(before: Reader, attribute: Attribute, content_type: &[u8]) -> bool
     ensures { (levels below : ℕ) (file : List ℕ) (ms : List Part) (a : Part) (expected : Tree) → before.entry.bytes.now ≡ file
         → Row levels file before.entry.at before.entry.end ms → There below file attribute a
-        → content_type.now ≡ encode expected → result ≡ faultySigned expected ms a }
+        → content_type.now ≡ encode expected → result ≡ faulty_signed expected ms a }
 {
     let name = Element {
         bytes: before.bytes,
@@ -155,7 +155,7 @@ fn is_faulty_signed(before: Reader, attribute: Attribute, content_type: &[u8]) -
 /// The place of the first signed attribute that breaks a rule.
 pub(crate) fn first_faulty_signed(signed: Reader, content_type: &[u8]) -> Option<usize>
     ensures { (levels : ℕ) (ms : List Part) (expected : Tree) → Row levels signed.entry.bytes.now signed.entry.at signed.entry.end ms
-        → content_type.now ≡ encode expected → result ≡ firstFaulty (faultySigned expected) [] signed.entry.at ms }
+        → content_type.now ≡ encode expected → result ≡ first_faulty (faulty_signed expected) [] signed.entry.at ms }
 {
     let mut reader = signed;
     while reader.at < reader.end {
@@ -178,7 +178,7 @@ pub(crate) fn first_faulty_signed(signed: Reader, content_type: &[u8]) -> Option
 /// The place of the first unsigned attribute that may stand only among signed ones.
 pub(crate) fn first_misplaced(unsigned: Reader) -> Option<usize>
     ensures { (levels : ℕ) (ms : List Part) → Row levels unsigned.entry.bytes.now unsigned.entry.at unsigned.entry.end ms
-        → result ≡ firstWith misplaced unsigned.entry.at ms }
+        → result ≡ first_with misplaced unsigned.entry.at ms }
 {
     let mut reader = unsigned;
     while reader.at < reader.end {

@@ -2,7 +2,7 @@
 ghost use Rattle.std.specs.Prelude.{◌≡◌, ℕ, ◌&&◌, ◌||◌, List};
 ghost use Rattle.model.specs.Parts.{Attribute as Part};
 ghost use Rattle.rules.specs.Attributes.{holds as Holds};
-ghost use Rattle.rules.specs.Forms.{formBy};
+ghost use Rattle.rules.specs.Forms.{form_told_by};
 ghost use Rattle.rules.specs.Standing.{Row};
 ghost use Rattle.rules.specs.declared.kinds.AttributeKind.TheVariants.{SignaturePolicy, CertificateReferences, RevocationReferences, CertificateValues, RevocationValues, CompleteTimeStamp, ReferencesTimeStamp};
 
@@ -32,7 +32,7 @@ fn has_extension(unsigned: Reader) -> bool
 
 /// The highest form that holds of a signer with these unsigned attributes.
 pub fn form_by(unsigned: Reader) -> Form
-    ensures { (levels : ℕ) (ms : List Part) → Row levels unsigned.entry.bytes.now unsigned.entry.at unsigned.entry.end ms → result ≡ formBy ms }
+    ensures { (levels : ℕ) (ms : List Part) → Row levels unsigned.entry.bytes.now unsigned.entry.at unsigned.entry.end ms → result ≡ form_told_by ms }
 {
     let stamped = holds(unsigned, AttributeKind::SignatureTimeStamp);
     let complete = stamped & has_references(unsigned);

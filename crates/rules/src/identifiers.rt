@@ -1,7 +1,7 @@
 //! The identifiers of attribute types.
 ghost use Rattle.std.specs.Prelude.{◌≡◌};
 ghost use Rattle.std.specs.Str.{bytes_eq};
-ghost use Rattle.rules.specs.Kinds.{kindBytes};
+ghost use Rattle.rules.specs.Kinds.{kind_bytes};
 
 use crate::kinds::AttributeKind;
 use fields::same;
@@ -55,7 +55,7 @@ static ARCHIVE_STAMP: [u8; 6] = [0x04, 0x00, 0x8d, 0x45, 0x02, 0x04];
 impl AttributeKind {
     /// The contents of the type's identifier.
     pub fn identifier<'a>(self) -> &'a [u8]
-        ensures { result.now ≡ kindBytes self }
+        ensures { result.now ≡ kind_bytes self }
     {
         match self {
             AttributeKind::ContentType => &CONTENT_TYPE,
@@ -76,7 +76,7 @@ impl AttributeKind {
 
     /// Whether an identifier with these contents is the type's.
     pub fn names(self, contents: &[u8]) -> bool
-        ensures { result ≡ bytes_eq contents.now (kindBytes self) }
+        ensures { result ≡ bytes_eq contents.now (kind_bytes self) }
     {
         same(contents, self.identifier())
     }

@@ -1,10 +1,10 @@
 //! Signers, looked through one by one.
 ghost use Rattle.std.specs.Prelude.{◌≡◌, ℕ, List, Option};
 ghost use Rattle.der.specs.Trees.{Tree, encode};
-ghost use Rattle.model.specs.Parts.{Attribute as Part, Signer as Person, unsignedTree};
-ghost use Rattle.rules.specs.Attributes.{brokenBy, firstBroken, firstMisplaced};
-ghost use Rattle.rules.specs.Forms.{form_of, hasPolicy};
-ghost use Rattle.rules.specs.Signers.{FieldThere, SignerThere, Signers, signerNumber};
+ghost use Rattle.model.specs.Parts.{Attribute as Part, Signer as Person, unsigned_tree};
+ghost use Rattle.rules.specs.Attributes.{broken_told_by, first_broken_of, first_misplaced_of};
+ghost use Rattle.rules.specs.Forms.{form_of, has_policy_of};
+ghost use Rattle.rules.specs.Signers.{FieldThere, SignerThere, Signers, signer_number};
 ghost use Rattle.rules.specs.Offsets.{inside as in_tree};
 
 use crate::attributes::{first_faulty_signed, first_misplaced, lacks};
@@ -27,7 +27,7 @@ fn inside<'a>(file: &'a [u8], entries: Entries) -> Reader<'a>
 
 /// The place of the first unsigned attribute that may stand only among signed ones, if the field is there.
 fn find_misplaced(file: &[u8], unsigned: Option<Entries>) -> Option<usize>
-    ensures { (levels p q : ℕ) (u : Option (List Part)) → FieldThere levels file.now p (λ ms. in_tree q (unsignedTree ms)) unsigned u → result ≡ firstMisplaced q u }
+    ensures { (levels p q : ℕ) (u : Option (List Part)) → FieldThere levels file.now p (λ ms. in_tree q (unsigned_tree ms)) unsigned u → result ≡ first_misplaced_of q u }
 {
     match unsigned {
         None => None,
@@ -38,7 +38,7 @@ fn find_misplaced(file: &[u8], unsigned: Option<Entries>) -> Option<usize>
 /// The place of the first rule that a signer's attributes break: the signer itself where one is lacking.
 fn broken_by(file: &[u8], signer: Signer, content_type: &[u8]) -> Option<usize>
     ensures { (levels p : ℕ) (s : Person) (expected : Tree) → SignerThere levels file.now signer p s
-        → content_type.now ≡ encode expected → result ≡ brokenBy expected p s }
+        → content_type.now ≡ encode expected → result ≡ broken_told_by expected p s }
 {
     let signed = inside(file, signer.signed);
     if lacks(signed) {
@@ -62,7 +62,7 @@ pub fn form_of(file: &[u8], signer: Signer) -> Form
 
 /// Whether a signer names a policy.
 pub fn has_policy(file: &[u8], signer: Signer) -> bool
-    ensures { (levels p : ℕ) (s : Person) → SignerThere levels file.now signer p s → result ≡ hasPolicy s }
+    ensures { (levels p : ℕ) (s : Person) → SignerThere levels file.now signer p s → result ≡ has_policy_of s }
 {
     names_policy(inside(file, signer.signed))
 }
@@ -70,7 +70,7 @@ pub fn has_policy(file: &[u8], signer: Signer) -> bool
 /// The place of the first broken rule among signers from the reader's offset to its end.
 pub fn first_broken(signers: Reader, content_type: &[u8]) -> Option<usize>
     ensures { (levels : ℕ) (ss : List Person) (expected : Tree) → Signers levels signers.entry.bytes.now signers.entry.at signers.entry.end ss
-        → content_type.now ≡ encode expected → result ≡ firstBroken expected signers.entry.at ss }
+        → content_type.now ≡ encode expected → result ≡ first_broken_of expected signers.entry.at ss }
 {
     let mut reader = signers;
     while reader.at < reader.end {
@@ -87,7 +87,7 @@ pub fn first_broken(signers: Reader, content_type: &[u8]) -> Option<usize>
 /// Where the signer of this number lies, counted from 0.
 pub fn find_signer(signers: Reader, number: usize) -> Option<Signer>
     ensures { (levels : ℕ) (ss : List Person) → Signers levels signers.entry.bytes.now signers.entry.at signers.entry.end ss
-        → result ≡ signerNumber number signers.entry.at ss }
+        → result ≡ signer_number number signers.entry.at ss }
 {
     let mut reader = signers;
     let mut left = number;

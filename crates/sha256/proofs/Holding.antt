@@ -5,7 +5,7 @@ use Rattle.std.proofs.lemmas.Bool.{cases_lt}
 use Rattle.sha256.specs.declared.stream.Stream.{Stream}
 use Rattle.sha256.specs.declared.words.Words.{Words}
 use Rattle.sha256.specs.Sha.{compress, H⁰, H}
-use Rattle.sha256.proofs.Chaining.{H-more, H-append, H-follow}
+use Rattle.sha256.proofs.Chaining.{H_more, H_append, H_follow}
 use Rattle.sha256.specs.Streams.{Holds, pushed, fed}
 
 -- the same as `Holds`, by the number of whole blocks and what is left over
@@ -44,7 +44,7 @@ push_at s xs q r b h =
     let more = length_push xs b in
     let below : 64 * q ≤ length xs = omega arith in
     let inside : r < length s.buffer = omega arith in
-    let kept : H q H⁰ (xs ++ b ∷ []) ≡ H q H⁰ xs = H-append q H⁰ xs (b ∷ []) below in
+    let kept : H q H⁰ (xs ++ b ∷ []) ≡ H q H⁰ xs = H_append q H⁰ xs (b ∷ []) below in
     let left : drop (64 * q) (xs ++ b ∷ []) ≡ drop (64 * q) xs ++ b ∷ [] = drop-append-le (64 * q) xs (b ∷ []) below in
     let front : take (r + 1) (set s.buffer r b) ≡ drop (64 * q) (xs ++ b ∷ []) =
     take_more_set s.buffer r b inside ∙ ap (λ z. z ++ b ∷ []) h.rest ∙ sym left in
@@ -64,7 +64,7 @@ push_at s xs q r b h =
           ap (λ t. cond t (compress s.words (set s.buffer (s.count % 64) b)) s.words) yes
           ∙ ap (λ w. compress w (set s.buffer (s.count % 64) b)) (h.chained ∙ sym kept)
           ∙ ap (compress (H q H⁰ (xs ++ b ∷ []))) whole
-          ∙ sym (H-more q H⁰ (xs ++ b ∷ []));
+          ∙ sym (H_more q H⁰ (xs ++ b ∷ []));
       room = length-set _ _ _ ∙ room;
       rest = sym (drop_all (64 * (q + 1)) (xs ++ b ∷ []) (omega arith));
     }) in
@@ -84,29 +84,29 @@ push_at s xs q r b h =
 pub holds_pushed : (s : Stream) (xs : List ℕ) (b : ℕ) → Holds s xs → Holds (pushed s b) (xs ++ b ∷ [])
 holds_pushed s xs b h = push_at s xs (length xs / 64) (length xs % 64) b (to_at s xs h)
 
-pub holds-fed : (ys : List ℕ) (s : Stream) (xs : List ℕ) → Holds s xs → Holds (fed s ys) (xs ++ ys)
-holds-fed [] s xs h = subst (Holds s) (sym (append-nil xs)) h
-holds-fed (y ∷ ys) s xs h =
-    subst (Holds (fed (pushed s y) ys)) (append_assoc xs (y ∷ []) ys) (holds-fed ys (pushed s y) (xs ++ y ∷ []) (holds_pushed s xs y h))
+pub holds_fed : (ys : List ℕ) (s : Stream) (xs : List ℕ) → Holds s xs → Holds (fed s ys) (xs ++ ys)
+holds_fed [] s xs h = subst (Holds s) (sym (append-nil xs)) h
+holds_fed (y ∷ ys) s xs h =
+    subst (Holds (fed (pushed s y) ys)) (append_assoc xs (y ∷ []) ys) (holds_fed ys (pushed s y) (xs ++ y ∷ []) (holds_pushed s xs y h))
 
-pub count-pushed : (s : Stream) (b : ℕ) → (pushed s b).count ≡ s.count + 1
+pub count_pushed : (s : Stream) (b : ℕ) → (pushed s b).count ≡ s.count + 1
 unfolding pushed
-count-pushed s b = refl
+count_pushed s b = refl
 
-pub count-fed : (ys : List ℕ) (s : Stream) → (fed s ys).count ≡ s.count + length ys
-count-fed [] s = omega arith
-count-fed (y ∷ ys) s = omega (arith, count-fed ys (pushed s y), count-pushed s y)
+pub count_fed : (ys : List ℕ) (s : Stream) → (fed s ys).count ≡ s.count + length ys
+count_fed [] s = omega arith
+count_fed (y ∷ ys) s = omega (arith, count_fed ys (pushed s y), count_pushed s y)
 
-pub fed-append : (s : Stream) (xs ys : List ℕ) → fed s (xs ++ ys) ≡ fed (fed s xs) ys
-fed-append s [] ys = refl
-fed-append s (x ∷ xs) ys = fed-append (pushed s x) xs ys
+pub fed_append : (s : Stream) (xs ys : List ℕ) → fed s (xs ++ ys) ≡ fed (fed s xs) ys
+fed_append s [] ys = refl
+fed_append s (x ∷ xs) ys = fed_append (pushed s x) xs ys
 
-pub fed-zeros : (s : Stream) (n : ℕ) → pushed (fed s (replicate n 0)) 0 ≡ fed s (replicate (n + 1) 0)
-fed-zeros s n = sym (ap (fed s) (sym (replicate_more n 0)) ∙ fed-append s (replicate n 0) (0 ∷ []))
+pub fed_zeros : (s : Stream) (n : ℕ) → pushed (fed s (replicate n 0)) 0 ≡ fed s (replicate (n + 1) 0)
+fed_zeros s n = sym (ap (fed s) (sym (replicate_more n 0)) ∙ fed_append s (replicate n 0) (0 ∷ []))
 
 -- whole blocks, m bytes, where nothing is left over
-pub holds-blocks : (s : Stream) (xs blocks : List ℕ) (w : Words) (m : ℕ) → s.count % 64 ≡ 0 → m % 64 ≡ 0 → length blocks ≡ m → w ≡ H (length blocks / 64) s.words blocks → Holds s xs → Holds (record { words = w; buffer = s.buffer; count = s.count + m }) (xs ++ blocks)
-holds-blocks s xs blocks w m even full many is h =
+pub holds_blocks : (s : Stream) (xs blocks : List ℕ) (w : Words) (m : ℕ) → s.count % 64 ≡ 0 → m % 64 ≡ 0 → length blocks ≡ m → w ≡ H (length blocks / 64) s.words blocks → Holds s xs → Holds (record { words = w; buffer = s.buffer; count = s.count + m }) (xs ++ blocks)
+holds_blocks s xs blocks w m even full many is h =
     let q = length xs / 64 in
     let n = length blocks / 64 in
     let counted = h.counted in
@@ -116,7 +116,7 @@ holds-blocks s xs blocks w m even full many is h =
       size = omega arith;
       small = omega arith;
       counted = omega arith;
-      chained = is ∙ ap (λ v. H n v blocks) h.chained ∙ sym (H-follow n q H⁰ xs blocks size);
+      chained = is ∙ ap (λ v. H n v blocks) h.chained ∙ sym (H_follow n q H⁰ xs blocks size);
       room = h.room;
       rest = sym (drop_all (64 * (q + n)) (xs ++ blocks) (omega arith));
     })

@@ -3,26 +3,26 @@ use Rattle.std.proofs.Common.{◌≡◌, ℕ, zero, suc, ◌+◌, ◌-◌, ◌*�
 use Rattle.std.proofs.lemmas.List.{get_or_append_left, get_or_at, length_push}
 use Rattle.std.proofs.lemmas.Bool.{cases_lt, le-ltb}
 use Rattle.sha256.specs.declared.words.Words.{Words}
-use Rattle.sha256.specs.Sha.{K, M, mixed, nextWord, W, round, rounds}
+use Rattle.sha256.specs.Sha.{K, M, mixed, next_word, W, round, rounds}
 use Rattle.sha256.specs.Windows.{word_at}
 
-W-more : (block : List ℕ) (n : ℕ) → W block (n + 1) ≡ W block n ++ nextWord block (W block n) n ∷ []
+W_more : (block : List ℕ) (n : ℕ) → W block (n + 1) ≡ W block n ++ next_word block (W block n) n ∷ []
 unfolding W
-W-more block n = rw (add-one n) refl
+W_more block n = rw (add-one n) refl
 
-length-W : (block : List ℕ) (n : ℕ) → length (W block n) ≡ n
+length_W : (block : List ℕ) (n : ℕ) → length (W block n) ≡ n
 unfolding W
-length-W block zero = refl
-length-W block (suc n) = length-append (W block n) (nextWord block (W block n) n ∷ []) ∙ omega (arith, length-W block n)
+length_W block zero = refl
+length_W block (suc n) = length-append (W block n) (next_word block (W block n) n ∷ []) ∙ omega (arith, length_W block n)
 
 -- the words that come later change none
-pub word-of-W : (block : List ℕ) (n t : ℕ) → t < n → get_or (W block n) t 0 ≡ word_at block t
+pub word_of_W : (block : List ℕ) (n t : ℕ) → t < n → get_or (W block n) t 0 ≡ word_at block t
 unfolding W word_at
-word-of-W block zero t h = absurd (omega arith)
-word-of-W block (suc n) t h =
+word_of_W block zero t h = absurd (omega arith)
+word_of_W block (suc n) t h =
     let before : t < n → get_or (W block (suc n)) t 0 ≡ word_at block t = λ l.
-    let within : t < length (W block n) = omega (arith, length-W block n) in
-    get_or_append_left (W block n) (nextWord block (W block n) n ∷ []) 0 t within ∙ word-of-W block n t l in
+    let within : t < length (W block n) = omega (arith, length_W block n) in
+    get_or_append_left (W block n) (next_word block (W block n) n ∷ []) 0 t within ∙ word_of_W block n t l in
     let last : n ≤ t → get_or (W block (suc n)) t 0 ≡ word_at block t = λ l.
     let e : suc n ≡ t + 1 = omega arith in
     ap (λ m. get_or (W block m) t 0) e in
@@ -30,39 +30,39 @@ word-of-W block (suc n) t h =
 
 -- past the first sixteen a word is mixed of four before it
 pub word_next : (block : List ℕ) (t : ℕ) → word_at block (t + 16) ≡ mixed (word_at block (t + 14)) (word_at block (t + 9)) (word_at block (t + 1)) (word_at block t)
-unfolding word_at nextWord
+unfolding word_at next_word
 word_next block t =
     let ws = W block (t + 16) in
-    let pick : (i j : ℕ) → i ≡ j → j < t + 16 → get_or ws i 0 ≡ word_at block j = λ i j e h. ap (λ k. get_or ws k 0) e ∙ word-of-W block (t + 16) j h in
+    let pick : (i j : ℕ) → i ≡ j → j < t + 16 → get_or ws i 0 ≡ word_at block j = λ i j e h. ap (λ k. get_or ws k 0) e ∙ word_of_W block (t + 16) j h in
     let far : ltb (t + 16) 16 ≡ false = le-ltb (t + 16) 16 (omega arith) in
     let a = pick (t + 16 - 2) (t + 14) (omega arith) (omega arith) in
     let b = pick (t + 16 - 7) (t + 9) (omega arith) (omega arith) in
     let c = pick (t + 16 - 15) (t + 1) (omega arith) (omega arith) in
     let d = pick (t + 16 - 16) t (omega arith) (omega arith) in
-    ap (λ l. get_or l (t + 16) 0) (W-more block (t + 16))
-    ∙ get_or_at ws (nextWord block ws (t + 16)) [] 0 (t + 16) (length-W block (t + 16))
+    ap (λ l. get_or l (t + 16) 0) (W_more block (t + 16))
+    ∙ get_or_at ws (next_word block ws (t + 16)) [] 0 (t + 16) (length_W block (t + 16))
     ∙ ap (λ z. cond z (M block (t + 16)) (mixed (get_or ws (t + 16 - 2) 0) (get_or ws (t + 16 - 7) 0) (get_or ws (t + 16 - 15) 0) (get_or ws (t + 16 - 16) 0))) far
     ∙ ap (λ x. mixed x (get_or ws (t + 16 - 7) 0) (get_or ws (t + 16 - 15) 0) (get_or ws (t + 16 - 16) 0)) a
     ∙ ap (λ x. mixed (word_at block (t + 14)) x (get_or ws (t + 16 - 15) 0) (get_or ws (t + 16 - 16) 0)) b
     ∙ ap (λ x. mixed (word_at block (t + 14)) (word_at block (t + 9)) x (get_or ws (t + 16 - 16) 0)) c
     ∙ ap (λ x. mixed (word_at block (t + 14)) (word_at block (t + 9)) (word_at block (t + 1)) x) d
 
-rounds-more : (n : ℕ) (s : Words) (ws : List ℕ) → rounds (n + 1) s ws ≡ round (rounds n s ws) (get_or K n 0) (get_or ws n 0)
+rounds_more : (n : ℕ) (s : Words) (ws : List ℕ) → rounds (n + 1) s ws ≡ round (rounds n s ws) (get_or K n 0) (get_or ws n 0)
 unfolding rounds
-rounds-more n s ws = rw (add-one n) refl
+rounds_more n s ws = rw (add-one n) refl
 
 -- one round more, where the code counts
-pub round-step : (s : Words) (block : List ℕ) (n m : ℕ) (v u : Words) (w : ℕ) → n < 64 → m ≡ n + 1 → v ≡ rounds n s (W block 64) → w ≡ word_at block n → u ≡ round v (get_or K n 0) w → u ≡ rounds m s (W block 64)
-round-step s block n m v u w h e p q is =
+pub round_step : (s : Words) (block : List ℕ) (n m : ℕ) (v u : Words) (w : ℕ) → n < 64 → m ≡ n + 1 → v ≡ rounds n s (W block 64) → w ≡ word_at block n → u ≡ round v (get_or K n 0) w → u ≡ rounds m s (W block 64)
+round_step s block n m v u w h e p q is =
     is
     ∙ ap (λ x. round x (get_or K n 0) w) p
-    ∙ ap (round (rounds n s (W block 64)) (get_or K n 0)) (q ∙ sym (word-of-W block 64 n h))
-    ∙ sym (rounds-more n s (W block 64))
+    ∙ ap (round (rounds n s (W block 64)) (get_or K n 0)) (q ∙ sym (word_of_W block 64 n h))
+    ∙ sym (rounds_more n s (W block 64))
     ∙ ap (λ k. rounds k s (W block 64)) (sym e)
 
 -- one word more, where the code counts
-pub word-step : (block : List ℕ) (n m a b c d x : ℕ) → m ≡ n + 16 → a ≡ word_at block (n + 14) → b ≡ word_at block (n + 9) → c ≡ word_at block (n + 1) → d ≡ word_at block n → x ≡ mixed a b c d → x ≡ word_at block m
-word-step block n m a b c d x e p q r s is =
+pub word_step : (block : List ℕ) (n m a b c d x : ℕ) → m ≡ n + 16 → a ≡ word_at block (n + 14) → b ≡ word_at block (n + 9) → c ≡ word_at block (n + 1) → d ≡ word_at block n → x ≡ mixed a b c d → x ≡ word_at block m
+word_step block n m a b c d x e p q r s is =
     is
     ∙ ap (λ z. mixed z b c d) p
     ∙ ap (λ z. mixed (word_at block (n + 14)) z c d) q

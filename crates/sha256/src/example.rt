@@ -1,16 +1,16 @@
 //! The standard's worked example.
 ghost use Rattle.std.specs.Prelude.{◌≡◌, codes};
-ghost use Rattle.sha256.specs.Example.{abcDigest};
+ghost use Rattle.sha256.specs.Example.{abc_digest};
 ghost use Rattle.sha256.specs.Sha.{sha256 as Sha};
 
 /// The definition computes the standard's digest.
 fn example_holds()
-    ensures { abcDigest ≡ Sha (codes "abc") }
+    ensures { abc_digest ≡ Sha (codes "abc") }
 {}
 
 /// The digest of the three letters "abc", which the standard's examples print.
 pub fn digest_of_abc() -> [u8; 32]
-    ensures printed { result ≡ abcDigest }
+    ensures printed { result ≡ abc_digest }
     ensures computed { result ≡ Sha (codes "abc") }
 {
     example_holds();

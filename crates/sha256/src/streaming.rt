@@ -1,6 +1,6 @@
 //! Giving bytes to a stream: one by one, in whole blocks, and the padding at the end.
 ghost use Rattle.std.specs.Prelude.{◌≡◌, ℕ, ◌+◌, ◌%◌, ◌^◌, ◌<◌, ◌≤◌, List, [], ◌++◌, length};
-ghost use Rattle.sha256.specs.Sha.{fillBytes, padding};
+ghost use Rattle.sha256.specs.Sha.{fill_bytes_of, padding};
 ghost use Rattle.sha256.specs.Streams.{Holds, pushed, fed};
 
 use crate::rounds::compress_blocks;
@@ -10,7 +10,7 @@ use crate::words::Words;
 /// How many zero bytes stand between the byte 80 and the length of a message of `count` bytes:
 /// the fewest that make whole blocks.
 fn fill_bytes(count: usize) -> usize
-    ensures is { result ≡ fillBytes count }
+    ensures is { result ≡ fill_bytes_of count }
     ensures fewest { (result < 64) × ((count + 1 + result + 8) % 64 ≡ 0) }
 {
     (119 - count % 64) % 64

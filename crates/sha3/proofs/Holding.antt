@@ -8,18 +8,18 @@ use Rattle.sha3.specs.States.{lanes}
 use Rattle.sha3.specs.Streams.{Holds, fresh}
 use Rattle.sha3.proofs.Steps.{chain_more}
 
-pub holds-fresh : Holds fresh []
+pub holds_fresh : Holds fresh []
 unfolding chain
-holds-fresh = record { counted = refl; chained = refl; room = refl; rest = refl }
+holds_fresh = record { counted = refl; chained = refl; room = refl; rest = refl }
 
 -- what comes after does not change the blocks before
-pub chain-append : (q : ℕ) (xs ys : List ℕ) → 136 * q ≤ length xs → chain q (xs ++ ys) ≡ chain q xs
+pub chain_append : (q : ℕ) (xs ys : List ℕ) → 136 * q ≤ length xs → chain q (xs ++ ys) ≡ chain q xs
 unfolding chain
-chain-append zero xs ys h = refl
-chain-append (suc q) xs ys h =
+chain_append zero xs ys h = refl
+chain_append (suc q) xs ys h =
     let here : 136 * q ≤ length xs = omega arith in
     let room : 136 ≤ length (drop (136 * q) xs) = simp length-drop (omega arith) in
-    ap (λ c. absorb c (take 136 (drop (136 * q) (xs ++ ys)))) (chain-append q xs ys here)
+    ap (λ c. absorb c (take 136 (drop (136 * q) (xs ++ ys)))) (chain_append q xs ys here)
     ∙ ap (λ b. absorb (chain q xs) (take 136 b)) (drop-append-le (136 * q) xs ys here)
     ∙ ap (absorb (chain q xs)) (take-append-le 136 (drop (136 * q) xs) ys room)
 
@@ -49,8 +49,8 @@ from_at s xs q r h =
     }
 
 -- one block more is absorbed, and nothing is left over
-whole-at : (t : Stream) (s : State) (xs ys block : List ℕ) (q : ℕ) → 136 * q ≤ length xs → lanes s ≡ chain q xs → lanes t.state ≡ absorb (lanes s) block → block ≡ drop (136 * q) (xs ++ ys) → length block ≡ 136 → t.count ≡ length (xs ++ ys) → length t.buffer ≡ 136 → Holds t (xs ++ ys)
-whole-at t s xs ys block q below was next is full counted room =
+whole_at : (t : Stream) (s : State) (xs ys block : List ℕ) (q : ℕ) → 136 * q ≤ length xs → lanes s ≡ chain q xs → lanes t.state ≡ absorb (lanes s) block → block ≡ drop (136 * q) (xs ++ ys) → length block ≡ 136 → t.count ≡ length (xs ++ ys) → length t.buffer ≡ 136 → Holds t (xs ++ ys)
+whole_at t s xs ys block q below was next is full counted room =
     let size : length (xs ++ ys) ≡ 136 * q + 136 = omega (arith, length-append xs ys, ap length is, length-drop (136 * q) (xs ++ ys)) in
     let same : take 136 (drop (136 * q) (xs ++ ys)) ≡ block = ap (take 136) (sym is) ∙ take_all 136 block (omega arith) in
     from_at t (xs ++ ys) (q + 1) 0 (record {
@@ -59,7 +59,7 @@ whole-at t s xs ys block q below was next is full counted room =
       counted = counted;
       chained =
           next
-          ∙ ap (λ c. absorb c block) (was ∙ sym (chain-append q xs ys below))
+          ∙ ap (λ c. absorb c block) (was ∙ sym (chain_append q xs ys below))
           ∙ ap (absorb (chain q (xs ++ ys))) (sym same)
           ∙ sym (chain_more q (xs ++ ys));
       room = room;
@@ -86,8 +86,8 @@ front s xs q r b h =
     ∙ sym (drop-append-le (136 * q) xs (b ∷ []) below)
 
 -- a byte that leaves the block open
-pub holds-part : (s : Stream) (xs : List ℕ) (b : ℕ) → s.count % 136 < 135 → Holds s xs → Holds (pushed s b s.state) (xs ++ b ∷ [])
-holds-part s xs b open' h =
+pub holds_part : (s : Stream) (xs : List ℕ) (b : ℕ) → s.count % 136 < 135 → Holds s xs → Holds (pushed s b s.state) (xs ++ b ∷ [])
+holds_part s xs b open' h =
     let counted = h.counted in
     let q = length xs / 136 in
     let r = length xs % 136 in
@@ -97,14 +97,14 @@ holds-part s xs b open' h =
       size = omega arith;
       small = omega arith;
       counted = omega arith;
-      chained = h.chained ∙ sym (chain-append q xs (b ∷ []) below);
+      chained = h.chained ∙ sym (chain_append q xs (b ∷ []) below);
       room = length-set _ _ _ ∙ h.room;
       rest = front s xs q r b (to_at s xs h);
     })
 
 -- a byte that ends the block
-pub holds-full : (s : Stream) (t : State) (xs : List ℕ) (b : ℕ) → s.count % 136 ≡ 135 → lanes t ≡ absorb (lanes s.state) (set s.buffer (s.count % 136) b) → Holds s xs → Holds (pushed s b t) (xs ++ b ∷ [])
-holds-full s t xs b last next h =
+pub holds_full : (s : Stream) (t : State) (xs : List ℕ) (b : ℕ) → s.count % 136 ≡ 135 → lanes t ≡ absorb (lanes s.state) (set s.buffer (s.count % 136) b) → Holds s xs → Holds (pushed s b t) (xs ++ b ∷ [])
+holds_full s t xs b last next h =
     let counted = h.counted in
     let room = h.room in
     let q = length xs / 136 in
@@ -115,15 +115,15 @@ holds-full s t xs b last next h =
     let e : r + 1 ≡ 136 = omega arith in
     let whole : set s.buffer (s.count % 136) b ≡ drop (136 * q) (xs ++ b ∷ []) =
     sym (take_all (r + 1) (set s.buffer (s.count % 136) b) (omega arith)) ∙ front s xs q r b (to_at s xs h) in
-    whole-at (pushed s b t) s.state xs (b ∷ []) _ q below h.chained next whole long (omega arith) long
+    whole_at (pushed s b t) s.state xs (b ∷ []) _ q below h.chained next whole long (omega arith) long
 
 -- a whole block, where nothing is left over
-pub holds-block : (s : Stream) (t : State) (xs block : List ℕ) → s.count % 136 ≡ 0 → length block ≡ 136 → lanes t ≡ absorb (lanes s.state) block → Holds s xs → Holds (record { state = t; buffer = s.buffer; count = s.count + 136 }) (xs ++ block)
-holds-block s t xs block even full next h =
+pub holds_block : (s : Stream) (t : State) (xs block : List ℕ) → s.count % 136 ≡ 0 → length block ≡ 136 → lanes t ≡ absorb (lanes s.state) block → Holds s xs → Holds (record { state = t; buffer = s.buffer; count = s.count + 136 }) (xs ++ block)
+holds_block s t xs block even full next h =
     let counted = h.counted in
     let q = length xs / 136 in
     let more = length-append xs block in
     let below : 136 * q ≤ length xs = omega arith in
     let none : drop (136 * q) xs ≡ [] = drop_all (136 * q) xs (omega arith) in
     let is : block ≡ drop (136 * q) (xs ++ block) = sym (drop-append-le (136 * q) xs block below ∙ ap (λ z. z ++ block) none) in
-    whole-at _ s.state xs block block q below h.chained next is full (omega arith) h.room
+    whole_at _ s.state xs block block q below h.chained next is full (omega arith) h.room

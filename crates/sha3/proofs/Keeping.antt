@@ -6,8 +6,8 @@ use Rattle.sha3.specs.Keccak.{C, D, θ, ρ, π, ι}
 use Rattle.sha3.specs.Sha3.{mixed}
 use Rattle.sha3.specs.States.{lanes}
 use Rattle.sha3.specs.Turned.{ones, kept, before, righted}
-use Rattle.sha3.proofs.Bits.{flip-flip}
-use Rattle.sha3.proofs.Linear.{Small, small-from-all, θ-sum, ρ-sum, π-sum}
+use Rattle.sha3.proofs.Bits.{flip_flip}
+use Rattle.sha3.proofs.Linear.{Small, small_from_all, θ-sum, ρ-sum, π-sum}
 
 -- which lanes θ makes turned, and ρ leaves so
 abbrev middle : List ℕ
@@ -25,26 +25,26 @@ unfolding ρ
 unfolding π
 π-middle = refl
 
-small-kept : Small kept
-small-kept = small-from-all kept (search rules)
+small_kept : Small kept
+small_kept = small_from_all kept (search rules)
 
-small-middle : Small middle
-small-middle = small-from-all middle (search rules)
+small_middle : Small middle
+small_middle = small_from_all middle (search rules)
 
-length-θ : (s : List ℕ) → length (θ s) ≡ 25
+length_θ : (s : List ℕ) → length (θ s) ≡ 25
 unfolding θ
-length-θ s = refl
+length_θ s = refl
 
-length-ρ : (s : List ℕ) → length (ρ s) ≡ 25
+length_ρ : (s : List ℕ) → length (ρ s) ≡ 25
 unfolding ρ
-length-ρ s = refl
+length_ρ s = refl
 
 -- before χ
-pub linear-kept : (s : List ℕ) → length s ≡ 25 → Small s → Small (θ s) → mixed (π (ρ (θ s))) before ≡ π (ρ (θ (righted s)))
-linear-kept s e hs hθ =
-    sym (ap (λ z. π (ρ z)) (θ-sum s kept e hs small-kept ∙ ap (mixed (θ s)) θ-kept)
-    ∙ ap π (ρ-sum (θ s) middle (length-θ s) hθ small-middle ∙ ap (mixed (ρ (θ s))) ρ-middle)
-    ∙ π-sum (ρ (θ s)) middle (length-ρ (θ s))
+pub linear_kept : (s : List ℕ) → length s ≡ 25 → Small s → Small (θ s) → mixed (π (ρ (θ s))) before ≡ π (ρ (θ (righted s)))
+linear_kept s e hs hθ =
+    sym (ap (λ z. π (ρ z)) (θ-sum s kept e hs small_kept ∙ ap (mixed (θ s)) θ-kept)
+    ∙ ap π (ρ-sum (θ s) middle (length_θ s) hθ small_middle ∙ ap (mixed (ρ (θ s))) ρ-middle)
+    ∙ π-sum (ρ (θ s)) middle (length_ρ (θ s))
     ∙ ap (mixed (π (ρ (θ s)))) π-middle)
 
 -- the first lane is kept as it is
@@ -54,5 +54,5 @@ unfolding ι
     let a = s.y0.x0 in
     ap (λ z. z ∷ drop 1 (righted (lanes s))) (xor_zero_r (bit_xor a c) ∙ ap (λ z. bit_xor z c) (sym (xor_zero_r a)))
 
-pub righted-twice : (s : State) → righted (righted (lanes s)) ≡ lanes s
-righted-twice s = simp (xor_zero_r, flip-flip)
+pub righted_twice : (s : State) → righted (righted (lanes s)) ≡ lanes s
+righted_twice s = simp (xor_zero_r, flip_flip)

@@ -7,51 +7,51 @@ use Rattle.sha3.specs.Pad.{bits_of, pad, Bitwise, Whole}
 use Rattle.sha3.specs.Sha3.{ending, tail, padded}
 
 -- one byte is left
-pub padded-one : (xs : List ℕ) (n : ℕ) → n ≡ length xs → 135 - n % 136 ≡ 0 → xs ++ 0x86 ∷ [] ≡ padded xs
+pub padded_one : (xs : List ℕ) (n : ℕ) → n ≡ length xs → 135 - n % 136 ≡ 0 → xs ++ 0x86 ∷ [] ≡ padded xs
 unfolding padded tail
-padded-one xs n counted e = ap (λ k. xs ++ ending k) (sym e) ∙ ap (λ m. xs ++ tail m) counted
+padded_one xs n counted e = ap (λ k. xs ++ ending k) (sym e) ∙ ap (λ m. xs ++ tail m) counted
 
 -- more are left, k of them between the first and the last
-pub padded-more : (xs : List ℕ) (n k : ℕ) → n ≡ length xs → 135 - n % 136 ≡ k + 1 → ((xs ++ 0x06 ∷ []) ++ replicate k 0) ++ 0x80 ∷ [] ≡ padded xs
+pub padded_more : (xs : List ℕ) (n k : ℕ) → n ≡ length xs → 135 - n % 136 ≡ k + 1 → ((xs ++ 0x06 ∷ []) ++ replicate k 0) ++ 0x80 ∷ [] ≡ padded xs
 unfolding padded tail
-padded-more xs n k counted e =
+padded_more xs n k counted e =
     append_assoc (xs ++ 0x06 ∷ []) (replicate k 0) (0x80 ∷ [])
     ∙ append_assoc xs (0x06 ∷ []) (replicate k 0 ++ 0x80 ∷ [])
     ∙ ap (λ j. xs ++ ending j) (sym (e ∙ add-one k))
     ∙ ap (λ m. xs ++ tail m) counted
 
 -- zero bytes are zero bits
-bits-zeros : (k : ℕ) → flat_map bits_of (replicate k 0 ++ 0x80 ∷ []) ≡ replicate (8 * k + 7) 0 ++ 1 ∷ []
-bits-zeros zero = refl
-bits-zeros (suc k) =
+bits_zeros : (k : ℕ) → flat_map bits_of (replicate k 0 ++ 0x80 ∷ []) ≡ replicate (8 * k + 7) 0 ++ 1 ∷ []
+bits_zeros zero = refl
+bits_zeros (suc k) =
     let e : 8 + (8 * k + 7) ≡ 8 * suc k + 7 = omega arith in
-    ap (λ z. replicate 8 0 ++ z) (bits-zeros k)
+    ap (λ z. replicate 8 0 ++ z) (bits_zeros k)
     ∙ sym (append_assoc (replicate 8 0) (replicate (8 * k + 7) 0) (1 ∷ []))
     ∙ ap (λ z. z ++ 1 ∷ []) (replicate-append-replicate 8 (8 * k + 7) 0)
     ∙ ap (λ m. replicate m 0 ++ 1 ∷ []) e
 
 -- the bits of an ending of more than one byte
-bits-ending : (k j : ℕ) → j ≡ 5 + (8 * k + 7) → flat_map bits_of (ending (suc k)) ≡ 0 ∷ 1 ∷ 1 ∷ replicate j 0 ++ 1 ∷ []
-bits-ending k j e =
-    ap (λ z. 0 ∷ 1 ∷ 1 ∷ replicate 5 0 ++ z) (bits-zeros k)
+bits_ending : (k j : ℕ) → j ≡ 5 + (8 * k + 7) → flat_map bits_of (ending (suc k)) ≡ 0 ∷ 1 ∷ 1 ∷ replicate j 0 ++ 1 ∷ []
+bits_ending k j e =
+    ap (λ z. 0 ∷ 1 ∷ 1 ∷ replicate 5 0 ++ z) (bits_zeros k)
     ∙ ap (λ z. 0 ∷ 1 ∷ 1 ∷ z) (sym (append_assoc (replicate 5 0) (replicate (8 * k + 7) 0) (1 ∷ [])))
     ∙ ap (λ z. 0 ∷ 1 ∷ 1 ∷ z ++ 1 ∷ []) (replicate-append-replicate 5 (8 * k + 7) 0)
     ∙ ap (λ m. 0 ∷ 1 ∷ 1 ∷ replicate m 0 ++ 1 ∷ []) (sym e)
 
-ending-bitwise : (n k : ℕ) → 135 - n % 136 ≡ k → flat_map bits_of (ending k) ≡ 0 ∷ 1 ∷ pad 1088 (8 * n + 2)
-ending-bitwise n zero h =
+ending_bitwise : (n k : ℕ) → 135 - n % 136 ≡ k → flat_map bits_of (ending k) ≡ 0 ∷ 1 ∷ pad 1088 (8 * n + 2)
+ending_bitwise n zero h =
     let e : (1088 - (8 * n + 2 + 2) % 1088) % 1088 ≡ 4 = omega arith in
     ap (λ j. 0 ∷ 1 ∷ 1 ∷ replicate j 0 ++ 1 ∷ []) (sym e)
-ending-bitwise n (suc k) h = bits-ending k _ (omega arith)
+ending_bitwise n (suc k) h = bits_ending k _ (omega arith)
 
-pub padded-bitwise : Bitwise
+pub padded_bitwise : Bitwise
 unfolding tail
-padded-bitwise n = ending-bitwise n (135 - n % 136) refl
+padded_bitwise n = ending_bitwise n (135 - n % 136) refl
 
-length-ending : (k : ℕ) → length (ending k) ≡ k + 1
-length-ending zero = refl
-length-ending (suc k) = omega (arith, length-append {A = ℕ} (replicate k 0) (0x80 ∷ []), length-replicate {A = ℕ} k 0)
+length_ending : (k : ℕ) → length (ending k) ≡ k + 1
+length_ending zero = refl
+length_ending (suc k) = omega (arith, length-append {A = ℕ} (replicate k 0) (0x80 ∷ []), length-replicate {A = ℕ} k 0)
 
-pub padded-whole : Whole
+pub padded_whole : Whole
 unfolding tail
-padded-whole n = omega (arith, length-ending (135 - n % 136))
+padded_whole n = omega (arith, length_ending (135 - n % 136))

@@ -21,8 +21,8 @@ abbrev pub righted : List ℕ → List ℕ
 righted s = mixed s kept
 
 -- the plane y of a list of 25
-abbrev pub inPlane : ℕ → List ℕ → List ℕ
-inPlane y s = take 5 (drop (5 * y) s)
+abbrev pub in_plane : ℕ → List ℕ → List ℕ
+in_plane y s = take 5 (drop (5 * y) s)
 
 -- χ of one plane
 abbrev pub twisted : List ℕ → List ℕ

@@ -5,7 +5,7 @@ ghost use Rattle.std.specs.Prelude.{◌≡◌, bit_xor};
 ghost use Rattle.sha3.specs.Keccak.{C, D, rotl, θ, ρ, π, χ, ι, Rnd, keccak};
 ghost use Rattle.sha3.specs.Sha3.{mixed};
 ghost use Rattle.sha3.specs.States.{in_row, lanes, plane, row};
-ghost use Rattle.sha3.specs.Turned.{before, inPlane, kept, righted, twisted};
+ghost use Rattle.sha3.specs.Turned.{before, in_plane, kept, righted, twisted};
 
 use crate::lanes::{Plane, State};
 
@@ -138,7 +138,7 @@ fn pi(s: State) -> State
 
 /// χ of the plane 0, on lanes as they are kept.
 fn twist0(p: Plane) -> Plane
-    ensures { mixed (row result) (inPlane 0 kept) ≡ twisted (mixed (row p) (inPlane 0 before)) }
+    ensures { mixed (row result) (in_plane 0 kept) ≡ twisted (mixed (row p) (in_plane 0 before)) }
 {
     Plane {
         x0: p.x0 ^ (p.x1 | p.x2),
@@ -151,7 +151,7 @@ fn twist0(p: Plane) -> Plane
 
 /// χ of the plane 1, on lanes as they are kept.
 fn twist1(p: Plane) -> Plane
-    ensures { mixed (row result) (inPlane 1 kept) ≡ twisted (mixed (row p) (inPlane 1 before)) }
+    ensures { mixed (row result) (in_plane 1 kept) ≡ twisted (mixed (row p) (in_plane 1 before)) }
 {
     Plane {
         x0: p.x0 ^ (p.x1 | p.x2),
@@ -164,7 +164,7 @@ fn twist1(p: Plane) -> Plane
 
 /// χ of the plane 2, on lanes as they are kept.
 fn twist2(p: Plane) -> Plane
-    ensures { mixed (row result) (inPlane 2 kept) ≡ twisted (mixed (row p) (inPlane 2 before)) }
+    ensures { mixed (row result) (in_plane 2 kept) ≡ twisted (mixed (row p) (in_plane 2 before)) }
 {
     Plane {
         x0: p.x0 ^ (p.x1 | p.x2),
@@ -177,7 +177,7 @@ fn twist2(p: Plane) -> Plane
 
 /// χ of the plane 3, on lanes as they are kept.
 fn twist3(p: Plane) -> Plane
-    ensures { mixed (row result) (inPlane 3 kept) ≡ twisted (mixed (row p) (inPlane 3 before)) }
+    ensures { mixed (row result) (in_plane 3 kept) ≡ twisted (mixed (row p) (in_plane 3 before)) }
 {
     Plane {
         x0: p.x0 ^ (p.x1 & p.x2),
@@ -190,7 +190,7 @@ fn twist3(p: Plane) -> Plane
 
 /// χ of the plane 4, on lanes as they are kept.
 fn twist4(p: Plane) -> Plane
-    ensures { mixed (row result) (inPlane 4 kept) ≡ twisted (mixed (row p) (inPlane 4 before)) }
+    ensures { mixed (row result) (in_plane 4 kept) ≡ twisted (mixed (row p) (in_plane 4 before)) }
 {
     Plane {
         x0: p.x0 ^ (!p.x1 & p.x2),

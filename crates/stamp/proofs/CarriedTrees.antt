@@ -3,45 +3,45 @@ use Rattle.std.proofs.Common.{◌≡◌, ℕ, ◌+◌, Bool, true, false, cond, 
 use Rattle.std.specs.Str.{bytes_eq}
 use Rattle.std.proofs.lemmas.Slice.Eq.{bytes_eq-Decides}
 use Rattle.der.specs.Trees.{Tree, leaf, node, Forest, none, more}
-use Rattle.fields.specs.Rules.{headSize, bodySize, or_else, Rule, follow}
-use Rattle.model.specs.Parts.{row_of, row, maybe, Attribute, attributeTree, unsignedTree}
-use Rattle.model.proofs.Unbroken.{some-not-none, or-none}
-use Rattle.stamp_model.specs.Stamps.{indexKind}
-use Rattle.stamp.specs.Grammar.{oneValue, values, indexAttribute, oneAttribute, carried}
+use Rattle.fields.specs.Rules.{head_size, body_size, or_else, Rule, follow}
+use Rattle.model.specs.Parts.{row_of, row, maybe, Attribute, attribute_tree, unsigned_tree}
+use Rattle.model.proofs.Unbroken.{some_not_none, or_none}
+use Rattle.stamp_model.specs.Stamps.{index_kind}
+use Rattle.stamp.specs.Grammar.{one_value, values, index_attribute, one_attribute, carried}
 
 -- one value
-value_of : (p : ℕ) (vs : List Tree) → oneValue p (row vs) ≡ None → (v : Tree) × (vs ≡ v ∷ [])
-value_of p [] e = absurd (some-not-none p e)
+value_of : (p : ℕ) (vs : List Tree) → one_value p (row vs) ≡ None → (v : Tree) × (vs ≡ v ∷ [])
+value_of p [] e = absurd (some_not_none p e)
 value_of p (v ∷ []) e = (v, refl)
-value_of p (v ∷ w ∷ vs) e = absurd (some-not-none _ e)
+value_of p (v ∷ w ∷ vs) e = absurd (some_not_none _ e)
 
-kind-of : (b : Bool) (p q : ℕ) (ts : Forest) → follow (cond b (Some values) None) p q ts ≡ None → (b ≡ true) × (values q ts ≡ None)
-kind-of true p q ts e = (refl, e)
-kind-of false p q ts e = absurd (some-not-none p e)
+kind_of : (b : Bool) (p q : ℕ) (ts : Forest) → follow (cond b (Some values) None) p q ts ≡ None → (b ≡ true) × (values q ts ≡ None)
+kind_of true p q ts e = (refl, e)
+kind_of false p q ts e = absurd (some_not_none p e)
 
 -- the attribute
-attribute-of : (p : ℕ) (a : Attribute) → indexAttribute p (more (leaf 6 a.kind) (more (node 0x31 (row a.values)) none)) ≡ None → (v : Tree) × (a ≡ record { kind = indexKind; values = v ∷ [] })
-attribute-of p a e =
-    let k = kind-of (bytes_eq a.kind indexKind) p _ _ e in
-    let o = or-none (oneValue _ (row a.values)) None k.1 in
+attribute_of_lem : (p : ℕ) (a : Attribute) → index_attribute p (more (leaf 6 a.kind) (more (node 0x31 (row a.values)) none)) ≡ None → (v : Tree) × (a ≡ record { kind = index_kind; values = v ∷ [] })
+attribute_of_lem p a e =
+    let k = kind_of (bytes_eq a.kind index_kind) p _ _ e in
+    let o = or_none (one_value _ (row a.values)) None k.1 in
     let v = value_of _ a.values o.0 in
-    let q : a.kind ≡ indexKind = (bytes_eq-Decides a.kind indexKind).0 k.0 in
+    let q : a.kind ≡ index_kind = (bytes_eq-Decides a.kind index_kind).0 k.0 in
     let r = v.1 in
     (v.0, λ i. record { kind = q i; values = r i })
 
-pub carried-of : (p : ℕ) (u : Option (List Attribute)) → carried p (maybe unsignedTree u none) ≡ None → (v : Tree) × (u ≡ Some (record { kind = indexKind; values = v ∷ [] } ∷ []))
-carried-of p None e = absurd (some-not-none p e)
-carried-of p (Some []) e = absurd (some-not-none _ e)
-carried-of p (Some (a ∷ [])) e =
-    let o = or-none (oneAttribute _ (row_of attributeTree (a ∷ []))) None e in
-    let i = or-none (indexAttribute _ (more (leaf 6 a.kind) (more (node 0x31 (row a.values)) none))) None o.0 in
-    let v = attribute-of _ a i.0 in
+pub carried_of_lem : (p : ℕ) (u : Option (List Attribute)) → carried p (maybe unsigned_tree u none) ≡ None → (v : Tree) × (u ≡ Some (record { kind = index_kind; values = v ∷ [] } ∷ []))
+carried_of_lem p None e = absurd (some_not_none p e)
+carried_of_lem p (Some []) e = absurd (some_not_none _ e)
+carried_of_lem p (Some (a ∷ [])) e =
+    let o = or_none (one_attribute _ (row_of attribute_tree (a ∷ []))) None e in
+    let i = or_none (index_attribute _ (more (leaf 6 a.kind) (more (node 0x31 (row a.values)) none))) None o.0 in
+    let v = attribute_of_lem _ a i.0 in
     (v.0, ap (λ (x : Attribute). Some (x ∷ [])) v.1)
-carried-of p (Some (a ∷ b ∷ others)) e =
-    let o = or-none (oneAttribute _ (row_of attributeTree (a ∷ b ∷ others))) None e in
-    let i = or-none (indexAttribute _ (more (leaf 6 a.kind) (more (node 0x31 (row a.values)) none))) (Some _) o.0 in
-    absurd (some-not-none _ i.1)
+carried_of_lem p (Some (a ∷ b ∷ others)) e =
+    let o = or_none (one_attribute _ (row_of attribute_tree (a ∷ b ∷ others))) None e in
+    let i = or_none (index_attribute _ (more (leaf 6 a.kind) (more (node 0x31 (row a.values)) none))) (Some _) o.0 in
+    absurd (some_not_none _ i.1)
 
 -- and where a signer carries one, there is no break
-pub carried-kept : (p : ℕ) (v : Tree) → carried p (maybe unsignedTree (Some (record { kind = indexKind; values = v ∷ [] } ∷ [])) none) ≡ None
-carried-kept p v = refl
+pub carried_kept : (p : ℕ) (v : Tree) → carried p (maybe unsigned_tree (Some (record { kind = index_kind; values = v ∷ [] } ∷ [])) none) ≡ None
+carried_kept p v = refl

@@ -5,52 +5,52 @@ use Rattle.der.specs.declared.span.Span.{Span}
 use Rattle.der.specs.Spans.{part}
 use Rattle.der.specs.Trees.{Tree, leaf, node, none, more, Valid, encode}
 use Rattle.fields.specs.Reads.{broke}
-use Rattle.fields.proofs.Standing.{At, first-at, rest_at, inside-at}
-use Rattle.fields.proofs.Tags.{seq, set, field-one}
+use Rattle.fields.proofs.Standing.{At, first_at, rest_at, inside_at}
+use Rattle.fields.proofs.Tags.{seq, set, field_one}
 use Rattle.cms.specs.declared.located.Signer.{Signer as Located}
-use Rattle.model.specs.Parts.{row, maybe, Attribute, attributeTree, Signer, unsignedTree}
-use Rattle.model.specs.Files.{File, signersTree}
-use Rattle.rules.specs.Offsets.{inside, signersAt, unsignedAt}
+use Rattle.model.specs.Parts.{row, maybe, Attribute, attribute_tree, Signer, unsigned_tree}
+use Rattle.model.specs.Files.{File, signers_tree}
+use Rattle.rules.specs.Offsets.{inside, signers_at, unsigned_at}
 use Rattle.message.specs.declared.fault.MessageFault.{MessageFault}
 use Rattle.message.specs.Lies.{SignerLies}
-use Rattle.message.proofs.Levels.{bytes-tree}
-use Rattle.message.proofs.SignerParts.{unsigned-stands}
-use Rattle.stamp_model.specs.Indexes.{Index, indexTree, indexBytes}
-use Rattle.stamp_model.specs.Stamps.{indexKind, carrying, Stamp}
+use Rattle.message.proofs.Levels.{bytes_tree}
+use Rattle.message.proofs.SignerParts.{unsigned_stands}
+use Rattle.stamp_model.specs.Indexes.{Index, index_tree, index_bytes}
+use Rattle.stamp_model.specs.Stamps.{index_kind, carrying, Stamp}
 use Rattle.index.specs.declared.located.IndexParts.{IndexParts}
 use Rattle.token.specs.declared.parts.TokenParts.{TokenParts}
 use Rattle.token.specs.Tokens.{TokenAt}
 use Rattle.stamp.specs.Grammar.{carried}
-use Rattle.stamp.specs.Places.{carriedAt}
+use Rattle.stamp.specs.Places.{carried_at}
 use Rattle.stamp.specs.Records.{carried_of}
 use Rattle.stamp.specs.Indexed.{IsIndex, IndexLies, NoIndex}
-use Rattle.stamp.specs.Stamped.{StampAt, carriedPlace, Uncarried, Misindexed}
-use Rattle.stamp.proofs.Links.{link-carried, carried-lies}
-use Rattle.stamp.proofs.CarriedTrees.{carried-of}
+use Rattle.stamp.specs.Stamped.{StampAt, carried_place, Uncarried, Misindexed}
+use Rattle.stamp.proofs.Links.{link_carried, carried_lies}
+use Rattle.stamp.proofs.CarriedTrees.{carried_of_lem}
 
 -- where the unsigned attributes begin
-place_is : (bytes : List ℕ) (x : Located) (f : File) (s : Signer) (w : SignerLies bytes x s) → x.whole.start ≡ inside (signersAt f) (signersTree f) → x.signature.end ≡ carriedPlace f s
+place_is : (bytes : List ℕ) (x : Located) (f : File) (s : Signer) (w : SignerLies bytes x s) → x.whole.start ≡ inside (signers_at f) (signers_tree f) → x.signature.end ≡ carried_place f s
 place_is bytes x f s w e =
     ap (λ (y : Located). y.signature.end) w.located
-    ∙ ap (λ (p : ℕ). unsignedAt p s) (sym (ap (λ (y : Located). y.whole.start) w.located) ∙ e)
+    ∙ ap (λ (p : ℕ). unsigned_at p s) (sym (ap (λ (y : Located). y.whole.start) w.located) ∙ e)
 
 -- the value of the one attribute stands there alone
-value-stands : (levels : ℕ) (bytes : List ℕ) (at end : ℕ) (u : Option (List Attribute)) (v : Tree) → u ≡ Some (record { kind = indexKind; values = v ∷ [] } ∷ []) →
-    At levels bytes at end (maybe unsignedTree u none) →
-    (l : ℕ) × At l bytes (carriedAt at (maybe unsignedTree u none)).start (carriedAt at (maybe unsignedTree u none)).end (more v none)
-value-stands levels bytes at end u v e a =
-    subst (λ (y : Option (List Attribute)). (l : ℕ) × At l bytes (carriedAt at (maybe unsignedTree y none)).start (carriedAt at (maybe unsignedTree y none)).end (more v none)) (sym e) (
+value_stands : (levels : ℕ) (bytes : List ℕ) (at end : ℕ) (u : Option (List Attribute)) (v : Tree) → u ≡ Some (record { kind = index_kind; values = v ∷ [] } ∷ []) →
+    At levels bytes at end (maybe unsigned_tree u none) →
+    (l : ℕ) × At l bytes (carried_at at (maybe unsigned_tree u none)).start (carried_at at (maybe unsigned_tree u none)).end (more v none)
+value_stands levels bytes at end u v e a =
+    subst (λ (y : Option (List Attribute)). (l : ℕ) × At l bytes (carried_at at (maybe unsigned_tree y none)).start (carried_at at (maybe unsigned_tree y none)).end (more v none)) (sym e) (
       _,
-      first-at (levels - 1 - 1 - 1) bytes _ _ v none
-          (inside-at (levels - 1 - 1) bytes _ _ (node 0x31 (row (v ∷ []))) none
-          (rest_at (levels - 1 - 1) bytes _ _ (leaf 6 indexKind) (more (node 0x31 (row (v ∷ []))) none)
-          (inside-at (levels - 1) bytes _ _ (attributeTree carrier) none
-          (inside-at levels bytes at end (unsignedTree (carrier ∷ [])) none (subst (λ (y : Option (List Attribute)). At levels bytes at end (maybe unsignedTree y none)) e a) 0xa1 refl field-one)
+      first_at (levels - 1 - 1 - 1) bytes _ _ v none
+          (inside_at (levels - 1 - 1) bytes _ _ (node 0x31 (row (v ∷ []))) none
+          (rest_at (levels - 1 - 1) bytes _ _ (leaf 6 index_kind) (more (node 0x31 (row (v ∷ []))) none)
+          (inside_at (levels - 1) bytes _ _ (attribute_tree carrier) none
+          (inside_at levels bytes at end (unsigned_tree (carrier ∷ [])) none (subst (λ (y : Option (List Attribute)). At levels bytes at end (maybe unsigned_tree y none)) e a) 0xa1 refl field_one)
           0x30 refl seq)) 0x31 refl set),
     )
   where
     carrier : Attribute
-    carrier = record { kind = indexKind; values = v ∷ [] }
+    carrier = record { kind = index_kind; values = v ∷ [] }
 
 module _ (bytes : List ℕ) (parts : TokenParts) (k : TokenAt 24 bytes parts) where
   abbrev file : File
@@ -65,10 +65,10 @@ module _ (bytes : List ℕ) (parts : TokenParts) (k : TokenAt 24 bytes parts) wh
   abbrev end : ℕ
   end = parts.signer.whole.end
 
-  stands : At (k.4.signer.levels - 1) bytes at end (maybe unsignedTree signer.unsigned none)
-  stands = unsigned-stands bytes parts.signer signer k.4.signer
+  stands : At (k.4.signer.levels - 1) bytes at end (maybe unsigned_tree signer.unsigned none)
+  stands = unsigned_stands bytes parts.signer signer k.4.signer
 
-  place : at ≡ carriedPlace file signer
+  place : at ≡ carried_place file signer
   place = place_is bytes parts.signer file signer k.4.signer k.4.place
 
   -- where the reading breaks off, the signer does not carry just one index
@@ -79,33 +79,33 @@ module _ (bytes : List ℕ) (parts : TokenParts) (k : TokenAt 24 bytes parts) wh
     info = k.2;
     token = k.3;
     first =
-        ap (λ (q : ℕ). carried q (maybe unsignedTree signer.unsigned none)) (sym place)
-        ∙ sym (link-carried _ bytes at end _ stands) ∙ ap broke (sym r);
+        ap (λ (q : ℕ). carried q (maybe unsigned_tree signer.unsigned none)) (sym place)
+        ∙ sym (link_carried _ bytes at end _ stands) ∙ ap broke (sym r);
   }
 
   -- where it gives a value, the signer carries just that
   pub record Value (span : Span) : Type 0 where
     pub value : Tree
-    pub unsigned : signer.unsigned ≡ Some (record { kind = indexKind; values = value ∷ [] } ∷ [])
-    pub start : span.start ≡ (carriedAt (carriedPlace file signer) (maybe unsignedTree signer.unsigned none)).start
+    pub unsigned : signer.unsigned ≡ Some (record { kind = index_kind; values = value ∷ [] } ∷ [])
+    pub start : span.start ≡ (carried_at (carried_place file signer) (maybe unsigned_tree signer.unsigned none)).start
     pub levels : ℕ
     pub valid : Valid value levels
-    pub bytes-are : part bytes span.start span.end ≡ encode value
+    pub bytes_are : part bytes span.start span.end ≡ encode value
 
   pub value_of : (span : Span) → Ok span ≡ carried_of bytes at end → Value span
   value_of span r =
-      let ts = maybe unsignedTree signer.unsigned none in
-      let none-broke : carried at ts ≡ None = sym (link-carried _ bytes at end ts stands) ∙ ap broke (sym r) in
-      let v = carried-of at signer.unsigned none-broke in
-      let lies : span ≡ carriedAt at ts = (carried-lies _ bytes at end ts stands).holds span (sym r) in
-      let a = value-stands _ bytes at end signer.unsigned v.0 v.1 stands in
+      let ts = maybe unsigned_tree signer.unsigned none in
+      let none-broke : carried at ts ≡ None = sym (link_carried _ bytes at end ts stands) ∙ ap broke (sym r) in
+      let v = carried_of_lem at signer.unsigned none-broke in
+      let lies : span ≡ carried_at at ts = (carried_lies _ bytes at end ts stands).holds span (sym r) in
+      let a = value_stands _ bytes at end signer.unsigned v.0 v.1 stands in
       record {
         value = v.0;
         unsigned = v.1;
-        start = ap (λ (y : Span). y.start) lies ∙ ap (λ (q : ℕ). (carriedAt q ts).start) place;
+        start = ap (λ (y : Span). y.start) lies ∙ ap (λ (q : ℕ). (carried_at q ts).start) place;
         levels = a.0;
         valid = a.1.valid.0;
-        bytes-are = ap (λ (y : Span). part bytes y.start y.end) lies ∙ a.1.bytes ∙ append-nil (encode v.0);
+        bytes_are = ap (λ (y : Span). part bytes y.start y.end) lies ∙ a.1.bytes ∙ append-nil (encode v.0);
       }
 
   pub misindexed : (span : Span) (whole : List ℕ) (fault : MessageFault) → Ok span ≡ carried_of bytes at end → whole ≡ part bytes span.start span.end → NoIndex 16 whole fault →
@@ -120,18 +120,18 @@ module _ (bytes : List ℕ) (parts : TokenParts) (k : TokenAt 24 bytes parts) wh
         value = v.value;
         unsigned = v.unsigned;
         begins = v.start;
-        none-there = subst (λ (y : List ℕ). NoIndex 16 y fault) (e ∙ v.bytes-are) n;
+        none_there = subst (λ (y : List ℕ). NoIndex 16 y fault) (e ∙ v.bytes_are) n;
       }
 
-  pub stamp-at : (span : Span) (whole : List ℕ) (entries : IndexParts) → Ok span ≡ carried_of bytes at end → whole ≡ part bytes span.start span.end → IndexLies 16 whole entries →
+  pub stamp_at : (span : Span) (whole : List ℕ) (entries : IndexParts) → Ok span ≡ carried_of bytes at end → whole ≡ part bytes span.start span.end → IndexLies 16 whole entries →
       StampAt bytes (record { token = parts; index = span; entries = entries })
-  stamp-at span whole entries r e x =
+  stamp_at span whole entries r e x =
       let v = value_of span r in
-      let same : v.value ≡ indexTree x.0 = bytes-tree v.value (indexTree x.0) v.levels 16 v.valid x.1.written.valid (sym v.bytes-are ∙ sym e ∙ x.1.written.bytes-are) in (
+      let same : v.value ≡ index_tree x.0 = bytes_tree v.value (index_tree x.0) v.levels 16 v.valid x.1.written.valid (sym v.bytes_are ∙ sym e ∙ x.1.written.bytes_are) in (
         record { token = file; signer = signer; info = k.2; index = x.0 },
         record {
           token = k.3;
-          unsigned = v.unsigned ∙ ap (λ (t : Tree). Some (record { kind = indexKind; values = t ∷ [] } ∷ [])) same;
+          unsigned = v.unsigned ∙ ap (λ (t : Tree). Some (record { kind = index_kind; values = t ∷ [] } ∷ [])) same;
           index = x.1.shape;
         },
         record {

@@ -4,24 +4,24 @@ use Rattle.std.specs.Str.{bytes_eq}
 use Rattle.fields.specs.Reads.{is}
 use Rattle.fields.specs.Rules.{Rule, nothing, free, field, choose}
 use Rattle.cms.specs.Grammar.{any}
-use Rattle.stamp_model.specs.Stamps.{indexKind}
+use Rattle.stamp_model.specs.Stamps.{index_kind}
 
 -- one value
-abbrev pub oneValue : Rule
-oneValue = field any free nothing
+abbrev pub one_value : Rule
+one_value = field any free nothing
 
 -- the values, 31, behind the type
 abbrev pub values : Rule
-values = field (is 0x31) oneValue nothing
+values = field (is 0x31) one_value nothing
 
 -- an attribute of the type of indexes, with one value
-abbrev pub indexAttribute : Rule
-indexAttribute = choose 6 (λ kind. cond (bytes_eq kind indexKind) (Some values) None)
+abbrev pub index_attribute : Rule
+index_attribute = choose 6 (λ kind. cond (bytes_eq kind index_kind) (Some values) None)
 
 -- one attribute
-abbrev pub oneAttribute : Rule
-oneAttribute = field (is 0x30) indexAttribute nothing
+abbrev pub one_attribute : Rule
+one_attribute = field (is 0x30) index_attribute nothing
 
 -- behind the six fields: unsigned attributes, A1, with that one
 abbrev pub carried : Rule
-carried = field (is 0xa1) oneAttribute nothing
+carried = field (is 0xa1) one_attribute nothing

@@ -4,16 +4,16 @@ use Rattle.der.specs.Trees.{Tree, Valid, encode}
 use Rattle.der.specs.Faults.{InElement}
 use Rattle.message.specs.declared.fault.MessageFault.{MessageFault}
 use Rattle.message.specs.declared.fault.MessageFault.TheVariants.{Element, Field, Count}
-use Rattle.stamp_model.specs.Indexes.{Index, indexTree, indexBytes, IndexShape}
+use Rattle.stamp_model.specs.Indexes.{Index, index_tree, index_bytes, IndexShape}
 use Rattle.index.specs.declared.located.IndexParts.{IndexParts}
-use Rattle.index.specs.Grammar.{indexBreak}
+use Rattle.index.specs.Grammar.{index_break}
 use Rattle.index.specs.Places.{index_at}
-use Rattle.index.specs.Limits.{firstTooManyEntry}
+use Rattle.index.specs.Limits.{first_too_many_entry_of}
 
 -- the bytes are the index x, with at most so many levels
 pub record WrittenAs (levels : ℕ) (bytes : List ℕ) (x : Index) : Type 0 where
-  pub valid : Valid (indexTree x) levels
-  pub bytes-are : bytes ≡ indexBytes x
+  pub valid : Valid (index_tree x) levels
+  pub bytes_are : bytes ≡ index_bytes x
 
 -- and it keeps its limits
 pub record IsIndex (levels : ℕ) (bytes : List ℕ) (x : Index) : Type 0 where
@@ -22,18 +22,18 @@ pub record IsIndex (levels : ℕ) (bytes : List ℕ) (x : Index) : Type 0 where
 
 -- and its parts lie where the record says
 abbrev pub IndexLies : ℕ → List ℕ → IndexParts → Type 0
-IndexLies levels bytes parts = (x : Index) × IsIndex levels bytes x × (parts ≡ index_at 0 (indexTree x))
+IndexLies levels bytes parts = (x : Index) × IsIndex levels bytes x × (parts ≡ index_at 0 (index_tree x))
 
 -- the bytes begin with an element, and the first break of the index is at p
 pub record Misfit (levels : ℕ) (bytes : List ℕ) (p : ℕ) : Type 0 where
   pub tree : Tree
   pub surplus : List ℕ
   pub valid : Valid tree levels
-  pub bytes-are : encode tree ++ surplus ≡ bytes
-  pub first : indexBreak 0 tree surplus ≡ Some p
+  pub bytes_are : encode tree ++ surplus ≡ bytes
+  pub first : index_break 0 tree surplus ≡ Some p
 
 -- why bytes are no index
 abbrev pub NoIndex : ℕ → List ℕ → MessageFault → Type 0
 NoIndex levels bytes (Element fault) = InElement levels bytes 0 fault
 NoIndex levels bytes (Field p) = Misfit levels bytes p
-NoIndex levels bytes (Count p) = (x : Index) × WrittenAs levels bytes x × (firstTooManyEntry 0 x ≡ Some p)
+NoIndex levels bytes (Count p) = (x : Index) × WrittenAs levels bytes x × (first_too_many_entry_of 0 x ≡ Some p)

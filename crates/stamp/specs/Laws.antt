@@ -9,7 +9,7 @@ use Rattle.stamp_model.specs.Stamps.{Stamp}
 use Rattle.message.specs.declared.fault.MessageFault.{MessageFault}
 use Rattle.stamp.specs.declared.parts.StampFault.{StampFault}
 use Rattle.stamp.specs.Indexed.{IsIndex, NoIndex}
-use Rattle.stamp.specs.Stamped.{tokenLevels, IsStamp, NoStamp, NotBare}
+use Rattle.stamp.specs.Stamped.{token_levels, IsStamp, NoStamp, NotBare}
 
 -- an index is not at fault
 abbrev pub NeverMisindexed : Type 0
@@ -25,4 +25,4 @@ OneStamp = (bytes : List ℕ) (st st' : Stamp) → IsStamp bytes st → IsStamp 
 
 -- a token without unsigned attributes is not at fault
 abbrev pub NeverBurdened : Type 0
-NeverBurdened = (bytes : List ℕ) (fault : StampFault) (f : File) (s : Signer) (i : Info) → NotBare bytes fault → IsToken tokenLevels bytes f s i → s.unsigned ≢ None
+NeverBurdened = (bytes : List ℕ) (fault : StampFault) (f : File) (s : Signer) (i : Info) → NotBare bytes fault → IsToken token_levels bytes f s i → s.unsigned ≢ None

@@ -2,8 +2,8 @@
 use Rattle.std.specs.Prelude.{ℕ}
 use Rattle.der.specs.declared.span.Span.{Span}
 use Rattle.der.specs.Trees.{Forest}
-use Rattle.fields.specs.Placed.{span_of, placedFrom, insideOf, nth}
+use Rattle.fields.specs.Placed.{span_of, placed_from, inside_of, nth}
 
 -- the value of the one attribute in the field that stands first
-abbrev pub carriedAt : ℕ → Forest → Span
-carriedAt at ts = span_of (nth 0 (insideOf (nth 1 (insideOf (nth 0 (insideOf (nth 0 (placedFrom at ts))))))))
+abbrev pub carried_at : ℕ → Forest → Span
+carried_at at ts = span_of (nth 0 (inside_of (nth 1 (inside_of (nth 0 (inside_of (nth 0 (placed_from at ts))))))))

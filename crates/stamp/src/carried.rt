@@ -1,6 +1,6 @@
 //! The index that a token's signer carries.
 ghost use Rattle.std.specs.Prelude.{◌≡◌};
-ghost use Rattle.stamp.specs.Records.{valueIn, attributeIn, unsignedIn, carried_of};
+ghost use Rattle.stamp.specs.Records.{value_in, attribute_in, unsigned_in, carried_of};
 
 use der::{Reader, Span};
 use fields::{enter, expect, expect_identifier, finish, read_any};
@@ -10,7 +10,7 @@ const INDEX: [u8; 6] = [0x04, 0x00, 0x8d, 0x45, 0x02, 0x05];
 
 /// The one value in its set.
 fn read_value(reader: &Reader, set: Span) -> Result<Span, usize>
-    ensures { result ≡ valueIn reader.now.bytes.now set }
+    ensures { result ≡ value_in reader.now.bytes.now set }
 {
     let mut inside = enter(reader, set);
     let value = read_any(&mut inside)?;
@@ -20,7 +20,7 @@ fn read_value(reader: &Reader, set: Span) -> Result<Span, usize>
 
 /// The one value of an attribute of the type of indexes.
 fn read_attribute(reader: &Reader, whole: Span) -> Result<Span, usize>
-    ensures { result ≡ attributeIn reader.now.bytes.now whole }
+    ensures { result ≡ attribute_in reader.now.bytes.now whole }
 {
     let mut inside = enter(reader, whole);
     expect_identifier(&mut inside, &INDEX)?;
@@ -32,7 +32,7 @@ fn read_attribute(reader: &Reader, whole: Span) -> Result<Span, usize>
 
 /// The value of the one attribute in the field of unsigned attributes.
 fn read_unsigned(reader: &Reader, field: Span) -> Result<Span, usize>
-    ensures { result ≡ unsignedIn reader.now.bytes.now field }
+    ensures { result ≡ unsigned_in reader.now.bytes.now field }
 {
     let mut inside = enter(reader, field);
     let attribute = expect(&mut inside, 0x30)?;

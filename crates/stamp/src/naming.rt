@@ -2,7 +2,7 @@
 ghost use Rattle.std.specs.Prelude.{◌≡◌, ℕ, List};
 ghost use Rattle.model.specs.Parts.{Signer};
 ghost use Rattle.model.specs.Files.{File};
-ghost use Rattle.stamp_model.specs.Indexes.{Index, indexTree, meantBy};
+ghost use Rattle.stamp_model.specs.Indexes.{Index, index_tree, meant_told_by};
 ghost use Rattle.stamp_model.specs.Tokens.{Info};
 ghost use Rattle.index.specs.Places.{index_at};
 ghost use Rattle.token.specs.Tokens.{IsToken, LiesAsToken};
@@ -49,7 +49,7 @@ pub fn name_of<'a>(token: &'a [u8], parts: &TokenParts) -> &'a [u8]
 
 /// The name of the digest that an index means.
 pub fn meant_by<'a>(index: &'a [u8], parts: &IndexParts) -> &'a [u8]
-    ensures { (levels : ℕ) (x : Index) → IsIndex levels index.now x → parts.now ≡ index_at 0 (indexTree x) → result.now ≡ meantBy x.algorithm }
+    ensures { (levels : ℕ) (x : Index) → IsIndex levels index.now x → parts.now ≡ index_at 0 (index_tree x) → result.now ≡ meant_told_by x.algorithm }
 {
     match parts.algorithm {
         None => &SHA_256,

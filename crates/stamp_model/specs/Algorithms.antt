@@ -7,13 +7,13 @@ pub record Algorithm : Type 0 where
   pub name : List ℕ
   pub null : Bool
 
-abbrev pub nullPart : Bool → Forest
-nullPart true = more (leaf 5 []) none
-nullPart false = none
+abbrev pub null_part : Bool → Forest
+null_part true = more (leaf 5 []) none
+null_part false = none
 
-abbrev pub algorithmTree : Algorithm → Tree
-algorithmTree a = node 0x30 (more (leaf 6 a.name) (nullPart a.null))
+abbrev pub algorithm_tree : Algorithm → Tree
+algorithm_tree a = node 0x30 (more (leaf 6 a.name) (null_part a.null))
 
 -- the name of SHA-256
-abbrev pub sha256Name : List ℕ
-sha256Name = 0x60 ∷ 0x86 ∷ 0x48 ∷ 0x01 ∷ 0x65 ∷ 0x03 ∷ 0x04 ∷ 0x02 ∷ 0x01 ∷ []
+abbrev pub sha256_name : List ℕ
+sha256_name = 0x60 ∷ 0x86 ∷ 0x48 ∷ 0x01 ∷ 0x65 ∷ 0x03 ∷ 0x04 ∷ 0x02 ∷ 0x01 ∷ []

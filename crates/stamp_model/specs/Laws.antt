@@ -2,16 +2,16 @@
 use Rattle.std.specs.Prelude.{◌≡◌, ℕ, List, [], ◌∷◌, length, Some}
 use Rattle.std.specs.List.{ContainsAt as Has, slice_get}
 use Rattle.der.specs.Trees.{leaf, node, Valid, encode}
-use Rattle.model.specs.Parts.{Attribute, Signer, versionTree, identifierTree, algorithmTree, signedTree}
-use Rattle.model.specs.Files.{File, contentTypeTree, fileTree}
-use Rattle.stamp_model.specs.Indexes.{Index, indexTree, indexBytes, index_of}
+use Rattle.model.specs.Parts.{Attribute, Signer, version_tree, identifier_tree, algorithm_tree, signed_tree}
+use Rattle.model.specs.Files.{File, content_type_tree, file_tree}
+use Rattle.stamp_model.specs.Indexes.{Index, index_tree, index_bytes, index_of}
 use Rattle.stamp_model.specs.Stamps.{Stamp, Carries}
-use Rattle.stamp_model.specs.Covering.{Covers, input_of, stampInput}
+use Rattle.stamp_model.specs.Covering.{Covers, input_of, stamp_input}
 use Rattle.stamp_model.specs.Later.{Included, Begins, LaterSigner, AsLate, Grown}
 
 -- bytes are those of one index at most
 abbrev pub OneIndex : Type 0
-OneIndex = (x x' : Index) (levels : ℕ) → Valid (indexTree x) levels → Valid (indexTree x') levels → indexBytes x ≡ indexBytes x' → x ≡ x'
+OneIndex = (x x' : Index) (levels : ℕ) → Valid (index_tree x) levels → Valid (index_tree x') levels → index_bytes x ≡ index_bytes x' → x ≡ x'
 
 -- an attribute is one stamp at most
 abbrev pub OneStamp : Type 0
@@ -19,21 +19,21 @@ OneStamp = (a : Attribute) (st st' : Stamp) → Carries a st → Carries a st' �
 
 -- a signer of a file that is well formed
 pub record SignerOf (f : File) (s : Signer) : Type 0 where
-  pub valid : Valid (fileTree f) 32
+  pub valid : Valid (file_tree f) 32
   pub has : Has f.signers s
 
 -- the six fields of two signers, byte for byte
 pub record SameFields (s s' : Signer) : Type 0 where
-  pub version : encode (versionTree s.identifier) ≡ encode (versionTree s'.identifier)
-  pub identifier : encode (identifierTree s.identifier) ≡ encode (identifierTree s'.identifier)
-  pub digest : encode (algorithmTree s.digest) ≡ encode (algorithmTree s'.digest)
-  pub signed : encode (signedTree s.signed) ≡ encode (signedTree s'.signed)
+  pub version : encode (version_tree s.identifier) ≡ encode (version_tree s'.identifier)
+  pub identifier : encode (identifier_tree s.identifier) ≡ encode (identifier_tree s'.identifier)
+  pub digest : encode (algorithm_tree s.digest) ≡ encode (algorithm_tree s'.digest)
+  pub signed : encode (signed_tree s.signed) ≡ encode (signed_tree s'.signed)
   pub algorithm : encode (node 0x30 s.algorithm) ≡ encode (node 0x30 s'.algorithm)
   pub signature : encode (leaf 4 s.signature) ≡ encode (leaf 4 s'.signature)
 
 -- the parts of two imprint inputs are equal, byte for byte
 pub record SameParts (f f' : File) (s s' : Signer) (digest digest' x x' : List ℕ) : Type 0 where
-  pub contentType : encode (contentTypeTree f) ≡ encode (contentTypeTree f')
+  pub content_type_of : encode (content_type_tree f) ≡ encode (content_type_tree f')
   pub content : digest ≡ digest'
   pub fields : SameFields s s'
   pub index : x ≡ x'
@@ -48,9 +48,9 @@ PartsTell = (f f' : File) (s s' : Signer) (digest digest' index index' : List �
 pub record LateLaws : Type 0 where
   pub same : (f : File) → AsLate f f
   pub through : (f g h : File) → AsLate f g → AsLate g h → AsLate f h
-  pub grown-same : (f : File) → Grown f f
-  pub grown-through : (f g h : File) → Grown f g → Grown g h → Grown f h
-  pub grown-late : (f g : File) → Grown f g → AsLate f g
+  pub grown_same : (f : File) → Grown f f
+  pub grown_through : (f g h : File) → Grown f g → Grown g h → Grown f h
+  pub grown_late : (f g : File) → Grown f g → AsLate f g
 
 -- in a copy as late, a signer has its place
 abbrev pub SignerStays : Type 0
@@ -60,16 +60,16 @@ SignerStays = (f f' : File) (k : ℕ) (s : Signer) → AsLate f f' → slice_get
 -- and a stamp keeps its imprint input, and covers if it covered
 pub record StampStays : Type 0 where
   pub input : (D : List ℕ → List ℕ) (content : List ℕ) (f f' : File) (s s' : Signer) (st : Stamp) → AsLate f f' → LaterSigner Included s s' →
-      stampInput D content f' s' st ≡ stampInput D content f s st
+      stamp_input D content f' s' st ≡ stamp_input D content f s st
   pub covers : (D : List ℕ → List ℕ) (content : List ℕ) (f f' : File) (s s' : Signer) (st : Stamp) → AsLate f f' → LaterSigner Included s s' →
       Covers D content f s st → Covers D content f' s' st
 
 -- the name of SHA3-256
-abbrev sha3Name : List ℕ
-sha3Name = 0x60 ∷ 0x86 ∷ 0x48 ∷ 0x01 ∷ 0x65 ∷ 0x03 ∷ 0x04 ∷ 0x02 ∷ 0x08 ∷ []
+abbrev sha3_name : List ℕ
+sha3_name = 0x60 ∷ 0x86 ∷ 0x48 ∷ 0x01 ∷ 0x65 ∷ 0x03 ∷ 0x04 ∷ 0x02 ∷ 0x08 ∷ []
 
 -- the index of no elements, for SHA3-256
 abbrev pub EmptyIndex : Type 0
 EmptyIndex = (D : List ℕ → List ℕ) →
-    indexBytes (index_of D sha3Name (λ list. []))
+    index_bytes (index_of D sha3_name (λ list. []))
     ≡ 0x30 ∷ 0x13 ∷ 0x30 ∷ 0x0b ∷ 0x06 ∷ 0x09 ∷ 0x60 ∷ 0x86 ∷ 0x48 ∷ 0x01 ∷ 0x65 ∷ 0x03 ∷ 0x04 ∷ 0x02 ∷ 0x08 ∷ 0x30 ∷ 0x00 ∷ 0x30 ∷ 0x00 ∷ 0x30 ∷ 0x00 ∷ []

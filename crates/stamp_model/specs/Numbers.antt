@@ -3,7 +3,7 @@ use Rattle.std.specs.Prelude.{ℕ}
 use Rattle.stamp_model.specs.declared.lists.ListName.{ListName}
 use Rattle.stamp_model.specs.declared.lists.ListName.TheVariants.{Certificates, Revocations, Attributes}
 
-abbrev pub listNumber : ListName → ℕ
-listNumber Certificates = 1
-listNumber Revocations = 2
-listNumber Attributes = 3
+abbrev pub list_number : ListName → ℕ
+list_number Certificates = 1
+list_number Revocations = 2
+list_number Attributes = 3

@@ -2,8 +2,8 @@
 use Rattle.std.specs.Prelude.{ℕ, ◌+◌, cond, List, Some, None, Option}
 use Rattle.der.specs.Trees.{Tree, tag_of}
 use Rattle.fields.specs.Reads.{is}
-use Rattle.fields.specs.Rules.{parts_of, headSize, bodySize, or_else, Rule, nothing, free, field, choose, one}
-use Rattle.cms.specs.Grammar.{surplusAt}
+use Rattle.fields.specs.Rules.{parts_of, head_size, body_size, or_else, Rule, nothing, free, field, choose, one}
+use Rattle.cms.specs.Grammar.{surplus_at}
 use Rattle.index.specs.Grammar.{algorithm}
 
 -- the digest behind its algorithm
@@ -15,17 +15,17 @@ abbrev pub imprint : Rule
 imprint = field (is 0x30) algorithm digest
 
 -- behind the version: a policy's identifier, the imprint field, and anything
-abbrev pub infoFields : Rule
-infoFields = field (is 6) free (field (is 0x30) imprint free)
+abbrev pub info_fields : Rule
+info_fields = field (is 6) free (field (is 0x30) imprint free)
 
 -- the version is 1
-abbrev pub byInfoVersion : List ℕ → Option Rule
-byInfoVersion version = cond (one 1 version) (Some infoFields) None
+abbrev pub by_info_version : List ℕ → Option Rule
+by_info_version version = cond (one 1 version) (Some info_fields) None
 
 abbrev pub info : Rule
-info = choose 2 byInfoVersion
+info = choose 2 by_info_version
 
 -- the first break of the element that stands at `p`, with these bytes behind it
-abbrev pub firstInfoBreak : ℕ → Tree → List ℕ → Option ℕ
-firstInfoBreak p t surplus =
-    cond (is 0x30 (tag_of t)) (or_else (info (p + headSize t) (parts_of t)) (surplusAt (p + headSize t + bodySize t) surplus)) (Some p)
+abbrev pub first_info_break : ℕ → Tree → List ℕ → Option ℕ
+first_info_break p t surplus =
+    cond (is 0x30 (tag_of t)) (or_else (info (p + head_size t) (parts_of t)) (surplus_at (p + head_size t + body_size t) surplus)) (Some p)

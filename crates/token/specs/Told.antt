@@ -4,27 +4,27 @@ use Rattle.der.specs.Trees.{Tree, Valid, encode}
 use Rattle.der.specs.Faults.{InElement}
 use Rattle.message.specs.declared.fault.MessageFault.{MessageFault}
 use Rattle.message.specs.declared.fault.MessageFault.TheVariants.{Element, Field, Count}
-use Rattle.stamp_model.specs.Tokens.{Info, infoTree}
+use Rattle.stamp_model.specs.Tokens.{Info, info_tree}
 use Rattle.token.specs.declared.located.InfoParts.{InfoParts}
-use Rattle.token.specs.Grammar.{firstInfoBreak}
-use Rattle.token.specs.Places.{infoAt}
+use Rattle.token.specs.Grammar.{first_info_break}
+use Rattle.token.specs.Places.{info_at}
 
 -- the bytes tell i, within 32 levels of their own
 pub record Tells (bytes : List ℕ) (i : Info) : Type 0 where
-  pub valid : Valid (infoTree i) 32
-  pub bytes-are : bytes ≡ encode (infoTree i)
+  pub valid : Valid (info_tree i) 32
+  pub bytes_are : bytes ≡ encode (info_tree i)
 
 -- and the parts lie where the record says
 abbrev pub ToldAt : List ℕ → InfoParts → Type 0
-ToldAt bytes parts = (i : Info) × Tells bytes i × (parts ≡ infoAt 0 (infoTree i))
+ToldAt bytes parts = (i : Info) × Tells bytes i × (parts ≡ info_at 0 (info_tree i))
 
 -- the bytes begin with an element, and the first break is at p
 pub record Misfit (bytes : List ℕ) (p : ℕ) : Type 0 where
   pub tree : Tree
   pub surplus : List ℕ
   pub valid : Valid tree 32
-  pub bytes-are : encode tree ++ surplus ≡ bytes
-  pub first : firstInfoBreak 0 tree surplus ≡ Some p
+  pub bytes_are : encode tree ++ surplus ≡ bytes
+  pub first : first_info_break 0 tree surplus ≡ Some p
 
 -- why bytes tell nothing
 abbrev pub Untold : List ℕ → MessageFault → Type 0

@@ -1,7 +1,7 @@
 //! What a token tells.
 ghost use Rattle.std.specs.Prelude.{◌≡◌, MatchResult};
 ghost use Rattle.token.specs.Told.{ToldAt, Untold};
-ghost use Rattle.token.specs.Records.{imprintIn, versionOf, infoIn, infoOf};
+ghost use Rattle.token.specs.Records.{imprint_in, version_of, info_in, info_of};
 
 use crate::located::{ImprintParts, InfoParts};
 use der::{Reader, Span, walk_first};
@@ -14,7 +14,7 @@ const LEVELS: u8 = 32;
 
 /// The algorithm and the digest in the imprint field.
 fn read_imprint(reader: &Reader, field: Span) -> Result<ImprintParts, usize>
-    ensures { result ≡ imprintIn reader.now.bytes.now field }
+    ensures { result ≡ imprint_in reader.now.bytes.now field }
 {
     let mut inside = enter(reader, field);
     let algorithm = read_algorithm(&mut inside)?;
@@ -29,14 +29,14 @@ fn read_imprint(reader: &Reader, field: Span) -> Result<ImprintParts, usize>
 
 /// The version, which stands at `place`.
 fn check_version(place: usize, version: u8) -> Result<(), usize>
-    ensures { result ≡ versionOf place version }
+    ensures { result ≡ version_of place version }
 {
     if version == 1 { Ok(()) } else { Err(place) }
 }
 
 /// The fields up to the imprint.
 fn read_fields(reader: &Reader, whole: Span) -> Result<InfoParts, usize>
-    ensures { result ≡ infoIn reader.now.bytes.now whole }
+    ensures { result ≡ info_in reader.now.bytes.now whole }
 {
     let mut inside = enter(reader, whole);
     let version = read_number(&mut inside)?;
@@ -53,7 +53,7 @@ fn read_fields(reader: &Reader, whole: Span) -> Result<InfoParts, usize>
 
 /// What is told from the reader's offset to its end, or the place of the first break.
 fn read_parts(reader: Reader) -> Result<InfoParts, usize>
-    ensures { result ≡ infoOf reader.entry.bytes.now reader.entry.at reader.entry.end }
+    ensures { result ≡ info_of reader.entry.bytes.now reader.entry.at reader.entry.end }
 {
     let mut outside = reader;
     let whole = expect(&mut outside, 0x30)?;

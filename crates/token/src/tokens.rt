@@ -1,7 +1,7 @@
 //! Tokens as a whole.
 ghost use Rattle.std.specs.Prelude.{◌≡◌, MatchResult};
-ghost use Rattle.stamp_model.specs.Tokens.{tokenSettings};
-ghost use Rattle.token.specs.Tokens.{octetsOf, TokenAt, NoToken};
+ghost use Rattle.stamp_model.specs.Tokens.{token_settings};
+ghost use Rattle.token.specs.Tokens.{octets_for, TokenAt, NoToken};
 
 use crate::infos::read_info;
 use crate::parts::{TokenFault, TokenParts};
@@ -12,7 +12,7 @@ use rules::find_signer;
 
 /// The settings of a token.
 fn settings() -> Settings
-    ensures { result ≡ tokenSettings }
+    ensures { result ≡ token_settings }
 {
     Settings {
         signers: SignerCount::ExactlyOne,
@@ -22,7 +22,7 @@ fn settings() -> Settings
 
 /// The octet string of plain content.
 fn octets_of(content: Content) -> Option<Span>
-    ensures { result ≡ octetsOf content }
+    ensures { result ≡ octets_for content }
 {
     match content {
         Content::Plain { octets, .. } => Some(octets),

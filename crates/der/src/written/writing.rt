@@ -1,13 +1,13 @@
 //! The header of an element, written.
 ghost use Rattle.std.specs.Prelude.{◌≡◌, length, take, MatchOption};
-ghost use Rattle.der.specs.Trees.{headerBytes};
-ghost use Rattle.der.specs.Headers.{Sayable, headerSize};
+ghost use Rattle.der.specs.Trees.{header_bytes};
+ghost use Rattle.der.specs.Headers.{Sayable, header_size_of};
 
 use super::HeaderBytes;
 
 /// How many bytes the header of an element has whose contents have `size` bytes.
 pub fn header_size(size: usize) -> usize
-    ensures { result ≡ headerSize size }
+    ensures { result ≡ header_size_of size }
 {
     match size {
         0..=127 => 2,
@@ -19,7 +19,7 @@ pub fn header_size(size: usize) -> usize
 impl HeaderBytes {
     /// The header of an element with this tag and so many bytes of contents; none where no header can say it.
     pub fn new(tag: u8, size: usize) -> Option<HeaderBytes>
-        ensures { MatchOption result (Sayable tag size → ⊥) (λ h. Sayable tag size × (take h.count h.bytes ≡ headerBytes tag size)) }
+        ensures { MatchOption result (Sayable tag size → ⊥) (λ h. Sayable tag size × (take h.count h.bytes ≡ header_bytes tag size)) }
     {
         if tag & 0x1f == 0x1f || size > 0xffff {
             return None;

@@ -3,7 +3,7 @@ ghost use Rattle.std.specs.Prelude.{◌≡◌, ℕ, ◌+◌, ◌*◌, ◌≤◌,
 ghost use Rattle.der.specs.Trees.{Tree, encode};
 ghost use Rattle.index.specs.Puts.{Put};
 ghost use Rattle.index.specs.Standing.{Stand};
-ghost use Rattle.matching.specs.Lists.{parts, digestsBytes, digestsIn, holds as Holds};
+ghost use Rattle.matching.specs.Lists.{parts, digests_bytes, digests_in, holds as Holds};
 
 use super::Digests;
 use der::Reader;
@@ -14,7 +14,7 @@ use index::{Elements, put_digest};
 /// Puts the digest of each element, one behind another from the area's front on.
 fn put_digests<G: Digest>(file: &[u8], elements: Elements, area: &mut [u8]) -> usize
     requires { elements.count * size ≤ length area.old }
-    ensures { (ts : List Tree) → Stand file.now elements ts → Put area.old area.new 0 (digestsBytes value ts) result }
+    ensures { (ts : List Tree) → Stand file.now elements ts → Put area.old area.new 0 (digests_bytes value ts) result }
 {
     let mut reader = Reader {
         bytes: file,
@@ -58,7 +58,7 @@ impl Digests {
     /// The digests of the elements that stand there, at most 64.
     pub fn of<G: Digest>(file: &[u8], elements: Elements) -> Digests
         requires { elements.count ≤ 64 }
-        ensures { (ts : List Tree) → Stand file.now elements ts → digestsIn result ≡ map value (map encode ts) }
+        ensures { (ts : List Tree) → Stand file.now elements ts → digests_in result ≡ map value (map encode ts) }
     {
         let mut bytes = [0u8; 4096];
         put_digests::<G>(file, elements, &mut bytes);
@@ -71,7 +71,7 @@ impl Digests {
 
     /// Whether one of them is these bytes.
     pub fn holds(&self, wanted: &[u8]) -> bool
-        ensures { result ≡ Holds (digestsIn self.now) wanted.now }
+        ensures { result ≡ Holds (digests_in self.now) wanted.now }
     {
         has_part(&self.bytes, self.size, self.count, wanted)
     }

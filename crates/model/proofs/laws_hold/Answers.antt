@@ -1,7 +1,7 @@
-use Rattle.model.proofs.Filing.{no-break-is-file}
-use Rattle.model.proofs.Keeping.{file-has-no-break}
-use Rattle.model.proofs.Single.{one-file}
+use Rattle.model.proofs.Filing.{no_break_is_file}
+use Rattle.model.proofs.Keeping.{file_has_no_break}
+use Rattle.model.proofs.Single.{one_file}
 use Rattle.model.proofs.laws_hold.Goals as goal
 
 pub returns : goal.returns
-returns c = record { no-break-is-file = no-break-is-file; file-has-no-break = file-has-no-break; one-file = one-file }
+returns c = record { no_break_is_file = no_break_is_file; file_has_no_break = file_has_no_break; one_file = one_file }

@@ -1,8 +1,8 @@
 use Rattle.std.proofs.Common.{ap, ◌∙◌}
 use Rattle.fields.specs.Reads.{broke}
-use Rattle.fields.proofs.Steps.{gives-cases}
-use Rattle.cms.proofs.MessageLinks.{link-message}
-use Rattle.cms.proofs.RecordPlaces.{message-lies}
+use Rattle.fields.proofs.Steps.{gives_cases}
+use Rattle.cms.proofs.MessageLinks.{link_message}
+use Rattle.cms.proofs.RecordPlaces.{message_lies}
 use Rattle.cms.proofs.messages.read_message.Goals as goal
 
 pub returns : goal.returns
@@ -14,6 +14,6 @@ returns c =
     let end = c.args.reader.end in
     record {
       computed = read;
-      meaning = λ t surplus levels v l e. ap broke read ∙ link-message settings bytes at end t surplus levels v l e;
-      places = λ t surplus levels v l e. gives-cases _ _ _ read (message-lies settings bytes at end t surplus levels v l e);
+      meaning = λ t surplus levels v l e. ap broke read ∙ link_message settings bytes at end t surplus levels v l e;
+      places = λ t surplus levels v l e. gives_cases _ _ _ read (message_lies settings bytes at end t surplus levels v l e);
     }

@@ -1,11 +1,11 @@
-use Rattle.compose.specs.Composed.{stampType, indexType}
-use Rattle.compose.proofs.Joining.{pieces-joined}
+use Rattle.compose.specs.Composed.{stamp_type, index_type}
+use Rattle.compose.proofs.Joining.{pieces_joined}
 use Rattle.compose.proofs.pieces.pieces_of.Goals as goal
 
 pub returns : goal.returns
-unfolding stampType indexType
+unfolding stamp_type index_type
 returns c = λ k.
-    pieces-joined c.args.headers.now c.args.leads.front.now c.args.leads.six.now c.args.index.now
+    pieces_joined c.args.headers.now c.args.leads.front.now c.args.leads.six.now c.args.index.now
     c.as-slice.result.now c.as-slice-2.result.now c.as-slice-3.result.now c.as-slice-4.result.now c.as-slice-5.result.now c.as-slice-6.result.now
     c.as-slice-7.result.now c.as-slice-8.result.now c.as-slice-9.result.now c.as-slice-10.result.now
     c.as-slice.ensures c.as-slice-2.ensures c.as-slice-3.ensures c.as-slice-4.ensures c.as-slice-5.ensures c.as-slice-6.ensures

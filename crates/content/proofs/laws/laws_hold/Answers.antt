@@ -1,7 +1,7 @@
 use Rattle.std.proofs.Common.{refl}
-use Rattle.model.specs.Files.{fileBytes}
-use Rattle.content.proofs.Lying.{segments-join, content-lies}
+use Rattle.model.specs.Files.{file_bytes}
+use Rattle.content.proofs.Lying.{segments_join, content_lies}
 use Rattle.content.proofs.laws.laws_hold.Goals as goal
 
 pub returns : goal.returns
-returns c = record { segments = segments-join; content = λ f levels v. content-lies f levels (fileBytes f) v refl }
+returns c = record { segments = segments_join; content = λ f levels v. content_lies f levels (file_bytes f) v refl }

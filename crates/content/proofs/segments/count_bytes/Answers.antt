@@ -1,7 +1,7 @@
 use Rattle.std.proofs.Common.{◌≡◌, [], length, ap, ◌∙◌, arith}
 use Rattle.std.proofs.lemmas.List.{length-append}
-use Rattle.content.specs.Segments.{joinedIn}
-use Rattle.content.proofs.Joining.{Turn, turn, no-turn}
+use Rattle.content.specs.Segments.{joined_in}
+use Rattle.content.proofs.Joining.{Turn, turn, no_turn}
 use Rattle.content.proofs.segments.count_bytes.Goals as goal
 
 -- the segment of a turn
@@ -23,12 +23,12 @@ loop-segment-preserved c =
       stands.0 ∙ inv.0,
       stands.1 ∙ inv.1,
       omega (arith, t.ahead, inv.2),
-      omega (arith, inv.3, ap length t.joined, length-append c.contents.result.now (joinedIn c.args.segments.bytes.now c.next.new.self.at c.args.segments.end)),
+      omega (arith, inv.3, ap length t.joined, length-append c.contents.result.now (joined_in c.args.segments.bytes.now c.next.new.self.at c.args.segments.end)),
     )
 
 pub returns : goal.returns
 returns c =
     let inv = c.loop-segment.invariant in
-    let none : joinedIn c.args.segments.bytes.now c.loop-segment.reader.at c.args.segments.end ≡ [] =
-    no-turn c.args.segments.bytes.now _ c.loop-segment.reader.at c.args.segments.end _ _ inv.0 inv.1 c.in-default.ensures.reads.read in
+    let none : joined_in c.args.segments.bytes.now c.loop-segment.reader.at c.args.segments.end ≡ [] =
+    no_turn c.args.segments.bytes.now _ c.loop-segment.reader.at c.args.segments.end _ _ inv.0 inv.1 c.in-default.ensures.reads.read in
     omega (arith, inv.3, ap length none)

@@ -1,9 +1,9 @@
 use Rattle.std.proofs.Common.{◌≡◌, ℕ, ◌+◌, ◌-◌, List, [], ◌++◌, length, sym, refl, ap, ◌∙◌, subst, arith}
 use Rattle.std.proofs.lemmas.List.{append-nil, append_assoc, length-append}
 use Rattle.digest.specs.Read.{Read}
-use Rattle.content.specs.Segments.{joinedIn, joinedOf}
-use Rattle.content.proofs.Joining.{Turn, turn, no-turn}
-use Rattle.content.proofs.Filling.{read_none, read_next, read-full}
+use Rattle.content.specs.Segments.{joined_in, joined_of}
+use Rattle.content.proofs.Joining.{Turn, turn, no_turn}
+use Rattle.content.proofs.Filling.{read_none, read_next, read_full}
 use Rattle.content.proofs.segments.read_segments.Goals as goal
 
 -- the segment of a turn
@@ -20,9 +20,9 @@ pub returns-in-default : goal.returns-in-default
 returns-in-default c =
     let inv = c.loop-filled.invariant in
     let before = inv.3.0 in
-    let none : joinedIn c.args.segments.bytes.now c.loop-filled.reader.at c.args.segments.end ≡ [] =
-    no-turn c.args.segments.bytes.now _ c.loop-filled.reader.at c.args.segments.end _ _ inv.0 inv.1 c.in-default.ensures.reads.read in
-    let all : joinedOf c.args.segments ≡ before = inv.3.2 ∙ ap (λ (x : List ℕ). before ++ x) none ∙ append-nil before in
+    let none : joined_in c.args.segments.bytes.now c.loop-filled.reader.at c.args.segments.end ≡ [] =
+    no_turn c.args.segments.bytes.now _ c.loop-filled.reader.at c.args.segments.end _ _ inv.0 inv.1 c.in-default.ensures.reads.read in
+    let all : joined_of c.args.segments ≡ before = inv.3.2 ∙ ap (λ (x : List ℕ). before ++ x) none ∙ append-nil before in
     let Reads : List ℕ → Type 0 = λ bytes. Read bytes c.args.place c.args.block.now c.loop-filled.block c.loop-filled.filled in
     subst Reads (sym all) inv.3.3
 
@@ -54,4 +54,4 @@ pub returns : goal.returns
 returns c =
     let inv = c.loop-filled.invariant in
     let Reads : List ℕ → Type 0 = λ bytes. Read bytes c.args.place c.args.block.now c.loop-filled.block c.loop-filled.filled in
-    subst Reads (sym inv.3.2) (read-full inv.3.0 _ c.args.place c.args.block.now c.loop-filled.block c.loop-filled.filled inv.3.3 c.loop-filled-test.false)
+    subst Reads (sym inv.3.2) (read_full inv.3.0 _ c.args.place c.args.block.now c.loop-filled.block c.loop-filled.filled inv.3.3 c.loop-filled-test.false)

@@ -1,6 +1,6 @@
 use Rattle.std.proofs.Common.{◌≡◌, ℕ, ◌-◌, ◌≤◌, List, ◌++◌, length}
 use Rattle.digest.specs.Read.{Read}
-use Rattle.content.specs.Segments.{joinedIn, joinedOf}
+use Rattle.content.specs.Segments.{joined_in, joined_of}
 use Rattle.content.proofs.segments.read_segments.Given as goal
 
 -- the segments that are passed are read, and the others are left
@@ -8,7 +8,7 @@ abbrev pub invariant-loop-filled : goal.invariant-loop-filled
 invariant-loop-filled l =
     (l.reader.bytes.now ≡ l.segments.bytes.now) × (l.reader.end ≡ l.segments.end) × (l.passed ≤ l.reader.at)
     × ((before : List ℕ) × (length before ≡ l.passed)
-    × (joinedOf l.segments ≡ before ++ joinedIn l.segments.bytes.now l.reader.at l.segments.end)
+    × (joined_of l.segments ≡ before ++ joined_in l.segments.bytes.now l.reader.at l.segments.end)
     × Read before l.place l.initial.block l.block l.filled)
 
 abbrev pub decreases-loop-filled : goal.decreases-loop-filled

@@ -1,14 +1,14 @@
-use Rattle.der.proofs.Exact.{begins, begun, always-one, always-front}
-use Rattle.der.proofs.Unique.{same-forest, same-tree, no-fault, one-fault, no-fault-at, one-fault-at}
+use Rattle.der.proofs.Exact.{begins, begun, always_one, always_front}
+use Rattle.der.proofs.Unique.{same_forest, same_tree, no_fault, one_fault, no_fault_at, one_fault_at}
 use Rattle.der.proofs.laws.laws_hold.Goals as goal
 
 pub returns : goal.returns
 returns c = record {
   header-exact = λ bs h t. (begins bs h t, begun bs h);
-  one-forest = same-forest;
-  one-front = same-tree;
-  one-fault = one-fault;
-  never_both = no-fault;
-  always-one = always-one;
-  front = record { one-fault = one-fault-at; never_both = no-fault-at; always-one = always-front };
+  one-forest = same_forest;
+  one-front = same_tree;
+  one_fault = one_fault;
+  never_both = no_fault;
+  always_one = always_one;
+  front = record { one_fault = one_fault_at; never_both = no_fault_at; always_one = always_front };
 }

@@ -1,6 +1,6 @@
 use Rattle.std.proofs.Common.{arith}
-use Rattle.der.proofs.Decided.{walked-first}
+use Rattle.der.proofs.Decided.{walked_first}
 use Rattle.der.proofs.walking.walk_first.Goals as goal
 
 pub returns : goal.returns
-returns c = walked-first c.args.levels c.args.bytes.now (λ i. omega (arith, c.type-inv.bytes i)) c.walk-element.result c.walk-element.ensures
+returns c = walked_first c.args.levels c.args.bytes.now (λ i. omega (arith, c.type-inv.bytes i)) c.walk-element.result c.walk-element.ensures

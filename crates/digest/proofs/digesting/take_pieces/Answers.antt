@@ -3,7 +3,7 @@ use Rattle.std.specs.List.{flat_map}
 use Rattle.digest.specs.declared.refusal.Refusal.TheVariants.{LongInput}
 use Rattle.std.proofs.lemmas.List.{append_assoc, append-nil, take_at}
 use Rattle.std.proofs.lemmas.Result.{err_from_is_err_and}
-use Rattle.digest.proofs.Taking.{took-ok, took-err, joined-next, joined-next-length, joined-front, joined-front-is}
+use Rattle.digest.proofs.Taking.{took_ok, took_err, joined_next, joined_next_length, joined_front, joined_front_is}
 use Rattle.digest.proofs.digesting.take_pieces.Goals as goal
 
 none : Bor (List ℕ)
@@ -17,9 +17,9 @@ unfolding none
 loop-piece-preserved g c = λ xs is small.
     let i = c.loop-piece.piece-index in
     let pieces = c.args.pieces.now in
-    let took = took-ok _ _ _ _ _ (c.take.ensures _ (c.loop-piece.invariant xs is small).1) c.in-ok-take.was in
-    let next = joined-next (λ p. p.now) pieces i none c.loop-piece-test.true in
-    let more = joined-next-length (λ p. p.now) pieces i none c.loop-piece-test.true in
+    let took = took_ok _ _ _ _ _ (c.take.ensures _ (c.loop-piece.invariant xs is small).1) c.in-ok-take.was in
+    let next = joined_next (λ p. p.now) pieces i none c.loop-piece-test.true in
+    let more = joined_next_length (λ p. p.now) pieces i none c.loop-piece-test.true in
     let size = length-append xs (flat_map (λ p. p.now) (take i pieces)) in (
       omega (arith, took.0, more),
       subst (g.G.Digest.stands c.take.new.self) (append_assoc xs _ _ ∙ ap (λ z. xs ++ z) (sym next)) took.1,
@@ -33,18 +33,18 @@ returns-in-err-take g c = λ xs is small.
     let all = flat_map (λ p. p.now) pieces in
     let front = flat_map (λ p. p.now) (take i pieces) in
     let took = c.take.ensures _ (c.loop-piece.invariant xs is small).1 in
-    let failed = took-err _ _ _ _ _ took c.in-err-take.was in
+    let failed = took_err _ _ _ _ _ took c.in-err-take.was in
     let p = err_from_is_err_and c.from-residual.result c.from-residual.ensures.1 in
     let answer : c.from-residual.result ≡ Err LongInput = p.1 ∙ ap Err p.2 ∙ sym c.in-err-take.was ∙ failed.1 in
-    let more = joined-next-length (λ p. p.now) pieces i none c.loop-piece-test.true in
-    let within = joined-front (λ p. p.now) pieces (i + 1) in
+    let more = joined_next_length (λ p. p.now) pieces i none c.loop-piece-test.true in
+    let within = joined_front (λ p. p.now) pieces (i + 1) in
     let size = length-append xs front in
     let long : 16777216 < length xs + length all = omega (arith, failed.0, more, within, size) in
     record {
       fits = λ h. absurd (omega (arith, long, h));
       over = λ _. (
         answer,
-        (length front, subst (λ z. g.G.Digest.stands c.take.new.self (xs ++ z)) (sym (joined-front-is (λ p. p.now) pieces i)) (took.over failed.0).1),
+        (length front, subst (λ z. g.G.Digest.stands c.take.new.self (xs ++ z)) (sym (joined_front_is (λ p. p.now) pieces i)) (took.over failed.0).1),
       );
     }
 

@@ -1,6 +1,6 @@
 use Rattle.std.proofs.Common.{◌≡◌, ℕ, ◌+◌, ◌-◌, ◌<◌, ◌≤◌, min, List, ◌++◌, length, take, drop, sym, refl, ap, ◌∙◌, subst, arith, length-append, length-drop, length-take, take_all, take-add, rules}
 use Rattle.std.proofs.lemmas.List.{take_at, append_assoc, append-nil}
-use Rattle.digest.proofs.Taking.{took-ok, took-err}
+use Rattle.digest.proofs.Taking.{took_ok, took_err}
 use Rattle.digest.proofs.digesting.take_source.Goals as goal
 
 pub loop-place-init : goal.loop-place-init
@@ -19,7 +19,7 @@ loop-place-preserved g c =
       omega arith,
       search rules,
       λ xs is few.
-          let took = took-ok _ _ _ _ _ (c.take.ensures _ (c.loop-place.invariant.2 xs is few)) c.in-ok-take.was in
+          let took = took_ok _ _ _ _ _ (c.take.ensures _ (c.loop-place.invariant.2 xs is few)) c.in-ok-take.was in
           let next : (xs ++ take place all) ++ take (n - 0) c.read-at-count.new.block ≡ xs ++ take (place + n) all =
           ap (λ z. (xs ++ take place all) ++ z) got ∙ append_assoc xs _ _ ∙ ap (λ z. xs ++ z) (sym (take-add place n all)) in
           subst (g.G.Digest.stands c.take.new.self) next took.1,
@@ -31,7 +31,7 @@ returns-in-err-take g c = λ xs is small.
     let few = g.S.Source.few c.args.source.now in
     let many = c.read-at-count.ensures.many in
     let total = c.len-total.ensures in
-    let took = took-err _ _ _ _ _ (c.take.ensures _ (c.loop-place.invariant.2 xs is small)) c.in-err-take.was in
+    let took = took_err _ _ _ _ _ (c.take.ensures _ (c.loop-place.invariant.2 xs is small)) c.in-err-take.was in
     let before : length (xs ++ take c.loop-place.place all) ≤ length xs + c.loop-place.place = simp (length-append, length-take) (omega arith) in
     let now' : length (take (c.read-at-count.result - 0) c.read-at-count.new.block) ≤ c.read-at-count.result = simp length-take (omega arith) in
     absurd (omega (arith, took.0))

@@ -2,23 +2,23 @@ use Rattle.std.proofs.Common.{ℕ, ◌+◌, List, [], ◌++◌, length, ◌∙�
 use Rattle.std.proofs.lemmas.Result.{err_from_is_err_and}
 use Rattle.grow.specs.Splices.{Spliced}
 use Rattle.grow.proofs.Joins.{bytes_of}
-use Rattle.grow.proofs.Overlays.{filled-gap}
-use Rattle.grow.proofs.Plugs.{length-plug}
-use Rattle.grow.proofs.Inserts.{refused-long, measured-append, at-end, at-within, grown-stale, grown-changed, changed-end}
+use Rattle.grow.proofs.Overlays.{filled_gap}
+use Rattle.grow.proofs.Plugs.{length_plug}
+use Rattle.grow.proofs.Inserts.{refused_long, measured_append, at_end, at_within, grown_stale, grown_changed, changed_end}
 use Rattle.grow.proofs.appending.append.Goals as goal
 
 pub returns-in-err-size : goal.returns-in-err-size
 returns-in-err-size c fs body e =
     let new : List ℕ = bytes_of c.args.pieces.now in
     let p = err_from_is_err_and c.from-residual.result c.from-residual.ensures.1 in
-    changed-end c.args.buffer.now c.args.buffer.now c.from-residual.result fs body new
-    (refused-long c.args.buffer.now fs body new [] new c.from-residual.result p.0 c.in-err-size.field-0.0 p.1 p.2 c.in-err-size.ensures (omega arith))
+    changed_end c.args.buffer.now c.args.buffer.now c.from-residual.result fs body new
+    (refused_long c.args.buffer.now fs body new [] new c.from-residual.result p.0 c.in-err-size.field-0.0 p.1 p.2 c.in-err-size.ensures (omega arith))
 
 pub contents-end-at-requires : goal.contents-end-at-requires
 contents-end-at-requires c =
     let p = c.requires.path in
     let new : List ℕ = bytes_of c.args.pieces.now in
-    let m = measured-append c.args.buffer.now c.args.path.now new c.args.n c.in-ok-size.size c.in-ok-measure-append.field-0 p.0 p.1
+    let m = measured_append c.args.buffer.now c.args.path.now new c.args.n c.in-ok-size.size c.in-ok-measure-append.field-0 p.0 p.1
     c.requires.within p.2 c.in-ok-size.ensures (c.in-ok-measure-append.ensures p.0 p.1 new p.2) in
     record { within = (c.requires.within, omega (arith, m.least, m.short)); path = p }
 
@@ -26,11 +26,11 @@ pub open-gap-requires : goal.open-gap-requires
 open-gap-requires c =
     let p = c.requires.path in
     let new : List ℕ = bytes_of c.args.pieces.now in
-    let m = measured-append c.args.buffer.now c.args.path.now new c.args.n c.in-ok-size.size c.in-ok-measure-append.field-0 p.0 p.1
+    let m = measured_append c.args.buffer.now c.args.path.now new c.args.n c.in-ok-size.size c.in-ok-measure-append.field-0 p.0 p.1
     c.requires.within p.2 c.in-ok-size.ensures (c.in-ok-measure-append.ensures p.0 p.1 new p.2) in
-    let s = at-end _ _ p.0 p.1 c.contents-end-at.result (c.contents-end-at.ensures p.0 p.1 p.2) p.2 in
+    let s = at_end _ _ p.0 p.1 c.contents-end-at.result (c.contents-end-at.ensures p.0 p.1 p.2) p.2 in
     record {
-      within = at-within c.args.buffer.now c.args.path.now c.args.n c.contents-end-at.result new p.0 p.1 [] c.requires.within s;
+      within = at_within c.args.buffer.now c.args.path.now c.args.n c.contents-end-at.result new p.0 p.1 [] c.requires.within s;
       room = omega (arith, m.least, m.fits);
     }
 
@@ -38,10 +38,10 @@ pub put-pieces-requires : goal.put-pieces-requires
 put-pieces-requires c =
     let p = c.requires.path in
     let new : List ℕ = bytes_of c.args.pieces.now in
-    let m = measured-append c.args.buffer.now c.args.path.now new c.args.n c.in-ok-size.size c.in-ok-measure-append.field-0 p.0 p.1
+    let m = measured_append c.args.buffer.now c.args.path.now new c.args.n c.in-ok-size.size c.in-ok-measure-append.field-0 p.0 p.1
     c.requires.within p.2 c.in-ok-size.ensures (c.in-ok-measure-append.ensures p.0 p.1 new p.2) in
-    let s = at-end _ _ p.0 p.1 c.contents-end-at.result (c.contents-end-at.ensures p.0 p.1 p.2) p.2 in
-    let a = at-within c.args.buffer.now c.args.path.now c.args.n c.contents-end-at.result new p.0 p.1 [] c.requires.within s in
+    let s = at_end _ _ p.0 p.1 c.contents-end-at.result (c.contents-end-at.ensures p.0 p.1 p.2) p.2 in
+    let a = at_within c.args.buffer.now c.args.path.now c.args.n c.contents-end-at.result new p.0 p.1 [] c.requires.within s in
     record { room = omega (arith, a, m.size, m.least, m.fits, c.open-gap.auto.buffer) }
 
 pub rewrap-requires : goal.rewrap-requires
@@ -50,20 +50,20 @@ rewrap-requires c =
     let was : List ℕ = c.args.buffer.now in
     let new : List ℕ = bytes_of c.args.pieces.now in
     let at : ℕ = c.contents-end-at.result in
-    let m = measured-append was c.args.path.now new c.args.n c.in-ok-size.size c.in-ok-measure-append.field-0 p.0 p.1
+    let m = measured_append was c.args.path.now new c.args.n c.in-ok-size.size c.in-ok-measure-append.field-0 p.0 p.1
     c.requires.within p.2 c.in-ok-size.ensures (c.in-ok-measure-append.ensures p.0 p.1 new p.2) in
-    let s = at-end _ _ p.0 p.1 at (c.contents-end-at.ensures p.0 p.1 p.2) p.2 in
-    let a = at-within was c.args.path.now c.args.n at new p.0 p.1 [] c.requires.within s in
+    let s = at_end _ _ p.0 p.1 at (c.contents-end-at.ensures p.0 p.1 p.2) p.2 in
+    let a = at_within was c.args.path.now c.args.n at new p.0 p.1 [] c.requires.within s in
     let put : Spliced was c.put-pieces.new.buffer c.args.n at 0 new =
-    filled-gap was c.open-gap.new.buffer c.put-pieces.new.buffer c.args.n at c.in-ok-size.size new a c.requires.within m.size c.open-gap.ensures c.put-pieces.ensures in
-    let l = length-plug p.0 (p.1 ++ (new ++ [])) in
+    filled_gap was c.open-gap.new.buffer c.put-pieces.new.buffer c.args.n at c.in-ok-size.size new a c.requires.within m.size c.open-gap.ensures c.put-pieces.ensures in
+    let l = length_plug p.0 (p.1 ++ (new ++ [])) in
     record {
       within = omega (arith, m.least, m.fits, c.open-gap.auto.buffer, c.put-pieces.auto.buffer);
       path = (
         p.0,
         length (p.1 ++ []),
         p.1 ++ (new ++ []),
-        grown-stale was c.args.path.now c.args.n at new p.0 p.1 [] c.requires.within s c.put-pieces.new.buffer put c.in-ok-size.size m.size,
+        grown_stale was c.args.path.now c.args.n at new p.0 p.1 [] c.requires.within s c.put-pieces.new.buffer put c.in-ok-size.size m.size,
         omega (arith, l, m.short),
         omega (arith, l, m.fits, c.open-gap.auto.buffer, c.put-pieces.auto.buffer),
       );
@@ -74,14 +74,14 @@ returns c fs body e =
     let was : List ℕ = c.args.buffer.now in
     let new : List ℕ = bytes_of c.args.pieces.now in
     let at : ℕ = c.contents-end-at.result in
-    let m = measured-append was c.args.path.now new c.args.n c.in-ok-size.size c.in-ok-measure-append.field-0 fs body
+    let m = measured_append was c.args.path.now new c.args.n c.in-ok-size.size c.in-ok-measure-append.field-0 fs body
     c.requires.within e c.in-ok-size.ensures (c.in-ok-measure-append.ensures fs body new e) in
-    let s = at-end _ _ fs body at (c.contents-end-at.ensures fs body e) e in
-    let a = at-within was c.args.path.now c.args.n at new fs body [] c.requires.within s in
+    let s = at_end _ _ fs body at (c.contents-end-at.ensures fs body e) e in
+    let a = at_within was c.args.path.now c.args.n at new fs body [] c.requires.within s in
     let put : Spliced was c.put-pieces.new.buffer c.args.n at 0 new =
-    filled-gap was c.open-gap.new.buffer c.put-pieces.new.buffer c.args.n at c.in-ok-size.size new a c.requires.within m.size c.open-gap.ensures c.put-pieces.ensures in
-    changed-end was _ _ fs body new
-    (grown-changed was c.args.path.now c.args.n at new fs body [] c.requires.within s c.put-pieces.new.buffer put c.rewrap.new.buffer c.rewrap.result _ _
+    filled_gap was c.open-gap.new.buffer c.put-pieces.new.buffer c.args.n at c.in-ok-size.size new a c.requires.within m.size c.open-gap.ensures c.put-pieces.ensures in
+    changed_end was _ _ fs body new
+    (grown_changed was c.args.path.now c.args.n at new fs body [] c.requires.within s c.put-pieces.new.buffer put c.rewrap.new.buffer c.rewrap.result _ _
     (c.put-pieces.auto.buffer ∙ c.open-gap.auto.buffer) m
     (c.rewrap.ensures fs (length (body ++ [])) (body ++ (new ++ []))
-    (grown-stale was c.args.path.now c.args.n at new fs body [] c.requires.within s c.put-pieces.new.buffer put c.in-ok-size.size m.size)))
+    (grown_stale was c.args.path.now c.args.n at new fs body [] c.requires.within s c.put-pieces.new.buffer put c.in-ok-size.size m.size)))

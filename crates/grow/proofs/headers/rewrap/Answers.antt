@@ -1,10 +1,10 @@
 use Rattle.std.proofs.Common.{◌≡◌, ℕ, ◌+◌, ◌-◌, ◌≤◌, List, ◌++◌, length, get_or, take, drop, sym, refl, ap, ◌∙◌, subst, arith}
 use Rattle.std.proofs.lemmas.List.{length-take-le, take-take}
-use Rattle.der.specs.Headers.{headerSize}
-use Rattle.der.specs.Trees.{headerBytes}
+use Rattle.der.specs.Headers.{header_size_of}
+use Rattle.der.specs.Trees.{header_bytes}
 use Rattle.grow.specs.Frames.{plug}
-use Rattle.grow.proofs.Plugs.{header-most, length-plug}
-use Rattle.grow.proofs.Rewraps.{Behind, behind-length, behind-place, behind-header, behind-ends, behind-grows, behind-most, behind-on, behind-room, behind-end, further, wrapped}
+use Rattle.grow.proofs.Plugs.{header_most, length_plug}
+use Rattle.grow.proofs.Rewraps.{Behind, behind_length, behind_place, behind_header, behind_ends, behind_grows, behind_most, behind_on, behind_room, behind_end, further, wrapped}
 use Rattle.grow.proofs.headers.rewrap.Goals as goal
 
 pub loop-place-init : goal.loop-place-init
@@ -15,49 +15,49 @@ header-at-header-requires c =
     let p = c.requires.path in
     let a = c.loop-place.invariant.2 p.0 p.1 p.2 p.3 in
     let n = length-take-le c.loop-place.end c.loop-place.buffer c.loop-place.invariant.0 in
-    let s : length (take c.loop-place.end c.loop-place.buffer) ≤ 65535 = omega (arith, behind-length _ _ _ _ a, length-plug p.0 p.2, p.4) in
+    let s : length (take c.loop-place.end c.loop-place.buffer) ≤ 65535 = omega (arith, behind_length _ _ _ _ a, length_plug p.0 p.2, p.4) in
     record {
-      within = (omega (arith, n, behind-place _ _ c.loop-place.place-index _ _ c.loop-place-test.true s a), c.loop-place.invariant.0);
-      header = behind-header _ _ c.loop-place.place-index _ _ c.loop-place-test.true s a;
+      within = (omega (arith, n, behind_place _ _ c.loop-place.place-index _ _ c.loop-place-test.true s a), c.loop-place.invariant.0);
+      header = behind_header _ _ c.loop-place.place-index _ _ c.loop-place-test.true s a;
     }
 
 pub overflow-add-header : goal.overflow-add-header
 overflow-add-header c =
     let p = c.requires.path in
     let a = c.loop-place.invariant.2 p.0 p.1 p.2 p.3 in
-    let s : length (take c.loop-place.end c.loop-place.buffer) ≤ 65535 = omega (arith, behind-length _ _ _ _ a, length-plug p.0 p.2, p.4) in
-    omega (arith, behind-most _ _ c.loop-place.place-index _ _ c.loop-place-test.true s a c.header-at-header.result c.header-at-header.ensures, length-plug p.0 p.2, p.4)
+    let s : length (take c.loop-place.end c.loop-place.buffer) ≤ 65535 = omega (arith, behind_length _ _ _ _ a, length_plug p.0 p.2, p.4) in
+    omega (arith, behind_most _ _ c.loop-place.place-index _ _ c.loop-place-test.true s a c.header-at-header.result c.header-at-header.ensures, length_plug p.0 p.2, p.4)
 
 pub rewrite-header-next-requires : goal.rewrite-header-next-requires
 rewrite-header-next-requires c =
     let p = c.requires.path in
     let a = c.loop-place.invariant.2 p.0 p.1 p.2 p.3 in
     let n = length-take-le c.loop-place.end c.loop-place.buffer c.loop-place.invariant.0 in
-    let lp = length-plug p.0 p.2 in
-    let s : length (take c.loop-place.end c.loop-place.buffer) ≤ 65535 = omega (arith, behind-length _ _ _ _ a, lp, p.4) in
+    let lp = length_plug p.0 p.2 in
+    let s : length (take c.loop-place.end c.loop-place.buffer) ≤ 65535 = omega (arith, behind_length _ _ _ _ a, lp, p.4) in
     let h = c.header-at-header.result in
     let e = c.header-at-header.ensures in
     let i = c.loop-place.place-index in
     let l = c.loop-place-test.true in
     record {
-      within = (omega (arith, n, behind-ends _ _ i _ _ l s a h e), c.loop-place.invariant.0);
-      grows = behind-grows _ _ i _ _ l s a h e;
-      short = omega (arith, behind-most _ _ i _ _ l s a h e, lp, p.4);
-      room = omega (arith, n, behind-room _ _ i _ _ l s a h e, lp, p.5, c.loop-place.auto.buffer);
+      within = (omega (arith, n, behind_ends _ _ i _ _ l s a h e), c.loop-place.invariant.0);
+      grows = behind_grows _ _ i _ _ l s a h e;
+      short = omega (arith, behind_most _ _ i _ _ l s a h e, lp, p.4);
+      room = omega (arith, n, behind_room _ _ i _ _ l s a h e, lp, p.5, c.loop-place.auto.buffer);
     }
 
 pub overflow-add-grow : goal.overflow-add-grow
 overflow-add-grow c =
     let p = c.requires.path in
     let a = c.loop-place.invariant.2 p.0 p.1 p.2 p.3 in
-    let s : length (take c.loop-place.end c.loop-place.buffer) ≤ 65535 = omega (arith, behind-length _ _ _ _ a, length-plug p.0 p.2, p.4) in
+    let s : length (take c.loop-place.end c.loop-place.buffer) ≤ 65535 = omega (arith, behind_length _ _ _ _ a, length_plug p.0 p.2, p.4) in
     omega (
       arith,
-      behind-most _ _ c.loop-place.place-index _ _ c.loop-place-test.true s a c.header-at-header.result c.header-at-header.ensures,
-      length-plug p.0 p.2,
+      behind_most _ _ c.loop-place.place-index _ _ c.loop-place-test.true s a c.header-at-header.result c.header-at-header.ensures,
+      length_plug p.0 p.2,
       p.4,
       c.rewrite-header-next.ensures.length,
-      header-most (c.header-at-header.result.size + c.loop-place.grow),
+      header_most (c.header-at-header.result.size + c.loop-place.grow),
     )
 
 pub loop-place-preserved : goal.loop-place-preserved
@@ -65,30 +65,30 @@ loop-place-preserved c =
     let n = length-take-le c.loop-place.end c.loop-place.buffer c.loop-place.invariant.0 in
     let p = c.requires.path in
     let a = c.loop-place.invariant.2 p.0 p.1 p.2 p.3 in
-    let lp = length-plug p.0 p.2 in
-    let s : length (take c.loop-place.end c.loop-place.buffer) ≤ 65535 = omega (arith, behind-length _ _ _ _ a, lp, p.4) in
+    let lp = length_plug p.0 p.2 in
+    let s : length (take c.loop-place.end c.loop-place.buffer) ≤ 65535 = omega (arith, behind_length _ _ _ _ a, lp, p.4) in
     let h = c.header-at-header.result in
     let e = c.header-at-header.ensures in
     let i = c.loop-place.place-index in
     let l = c.loop-place-test.true in
     let place : ℕ = get_or c.args.path.now i 0 in
     let step = c.rewrite-header-next.ensures.length in
-    let more : c.loop-place.grow + (headerSize (h.size + c.loop-place.grow) - h.head) ≡ c.loop-place.grow + (c.rewrite-header-next.result - c.loop-place.end) = omega (arith, step) in
+    let more : c.loop-place.grow + (header_size_of (h.size + c.loop-place.grow) - h.head) ≡ c.loop-place.grow + (c.rewrite-header-next.result - c.loop-place.end) = omega (arith, step) in
     let file : take c.rewrite-header-next.result c.rewrite-header-next.new.buffer
-    ≡ take place (take c.loop-place.end c.loop-place.buffer) ++ (headerBytes h.tag (h.size + c.loop-place.grow) ++ drop (place + h.head) (take c.loop-place.end c.loop-place.buffer)) =
+    ≡ take place (take c.loop-place.end c.loop-place.buffer) ++ (header_bytes h.tag (h.size + c.loop-place.grow) ++ drop (place + h.head) (take c.loop-place.end c.loop-place.buffer)) =
     ap (λ (x : ℕ). take x c.rewrite-header-next.new.buffer) step
     ∙ c.rewrite-header-next.ensures.bytes.file
-    ∙ ap (λ (x : List ℕ). x ++ (headerBytes h.tag (h.size + c.loop-place.grow) ++ drop (place + h.head) (take c.loop-place.end c.loop-place.buffer)))
-    (sym (take-take place c.loop-place.end c.loop-place.buffer (omega (arith, n, behind-place _ _ i _ _ l s a)))) in (
-      omega (arith, n, step, behind-room _ _ i _ _ l s a h e, lp, p.5, c.loop-place.auto.buffer, c.rewrite-header-next.auto.buffer),
+    ∙ ap (λ (x : List ℕ). x ++ (header_bytes h.tag (h.size + c.loop-place.grow) ++ drop (place + h.head) (take c.loop-place.end c.loop-place.buffer)))
+    (sym (take-take place c.loop-place.end c.loop-place.buffer (omega (arith, n, behind_place _ _ i _ _ l s a)))) in (
+      omega (arith, n, step, behind_room _ _ i _ _ l s a h e, lp, p.5, c.loop-place.auto.buffer, c.rewrite-header-next.auto.buffer),
       ap (λ (x : ℕ). drop x c.rewrite-header-next.new.buffer) step ∙ c.rewrite-header-next.ensures.bytes.behind ∙ ap (λ (x : ℕ). drop x c.loop-place.buffer) (sym step)
           ∙ further c.loop-place.end c.rewrite-header-next.result _ _ (omega (arith, step)) c.loop-place.invariant.1,
       λ fs m body st.
           subst (λ (x : ℕ). Behind (take c.rewrite-header-next.result c.rewrite-header-next.new.buffer) (drop (i + 1) c.args.path.now) x (plug fs body)) more
-          (behind-on _ _ i _ _ l s (c.loop-place.invariant.2 fs m body st) h e _ file),
+          (behind_on _ _ i _ _ l s (c.loop-place.invariant.2 fs m body st) h e _ file),
     )
 
 pub returns : goal.returns
 returns c fs m body s =
     wrapped c.args.buffer.now c.loop-place.buffer c.loop-place.end (plug fs body) c.loop-place.auto.buffer c.loop-place.invariant.0
-    (behind-end _ _ c.loop-place.place-index _ _ c.loop-place-test.false (c.loop-place.invariant.2 fs m body s)) c.loop-place.invariant.1
+    (behind_end _ _ c.loop-place.place-index _ _ c.loop-place-test.false (c.loop-place.invariant.2 fs m body s)) c.loop-place.invariant.1

@@ -1,5 +1,5 @@
 use Rattle.std.proofs.Common.{ℕ, ◌+◌, ◌-◌, length, subst, arith}
-use Rattle.der.specs.Trees.{headerBytes}
+use Rattle.der.specs.Trees.{header_bytes}
 use Rattle.grow.specs.Splices.{Parted}
 use Rattle.grow.proofs.Overlays.{filled}
 use Rattle.grow.proofs.headers.rewrite_header.Goals as goal
@@ -8,7 +8,7 @@ pub returns : goal.returns
 returns c = record {
   length = omega (arith, c.header-size.ensures);
   bytes =
-      filled c.args.buffer.now c.open-gap.new.buffer _ c.args.n c.args.at c.args.header.head (headerBytes c.args.header.tag c.args.size)
+      filled c.args.buffer.now c.open-gap.new.buffer _ c.args.n c.args.at c.args.header.head (header_bytes c.args.header.tag c.args.size)
       c.requires.within.0 c.requires.grows c.requires.within.1
       (subst (λ (x : ℕ). Parted c.args.buffer.now c.open-gap.new.buffer c.args.n (c.args.at + c.args.header.head) (x - c.args.header.head)) c.header-size.ensures c.open-gap.ensures)
       c.put-header.ensures;

@@ -1,19 +1,19 @@
 use Rattle.std.proofs.Common.{◌≡◌, ℕ, ◌+◌, ◌++◌, length, sym, ap, ◌∙◌, arith}
-use Rattle.der.specs.Headers.{headerSize}
+use Rattle.der.specs.Headers.{header_size_of}
 use Rattle.der.specs.Trees.{framed}
 use Rattle.grow.specs.Frames.{plug}
 use Rattle.grow.specs.Changes.{fitting}
-use Rattle.grow.proofs.Plugs.{length-framed}
+use Rattle.grow.proofs.Plugs.{length_framed}
 use Rattle.grow.proofs.Fits.{too_long}
-use Rattle.grow.proofs.Inserts.{length-new, new-least}
+use Rattle.grow.proofs.Inserts.{length_new, new_least}
 use Rattle.grow.proofs.measuring.measure_field.Goals as goal
 
 pub returns-then-more-gt-MOST : goal.returns-then-more-gt-MOST
 returns-then-more-gt-MOST c fs pre post new tag e m =
-    too_long _ (length (plug fs (pre ++ (framed tag new ++ post)))) (omega (arith, new-least fs pre (framed tag new) post, length-framed tag new, m, c.if-more-gt-MOST.true))
+    too_long _ (length (plug fs (pre ++ (framed tag new ++ post)))) (omega (arith, new_least fs pre (framed tag new) post, length_framed tag new, m, c.if-more-gt-MOST.true))
 
 pub returns : goal.returns
 returns c fs pre post new tag e m =
     let size : length (framed tag new) ≡ c.header-size.result + c.args.more =
-    length-framed tag new ∙ ap (λ (x : ℕ). headerSize x + x) m ∙ ap (λ (x : ℕ). x + c.args.more) (sym c.header-size.ensures) in
-    c.measure.ensures fs (pre ++ post) e ∙ ap (λ (x : ℕ). fitting (length c.args.buffer.now) x) (sym (length-new fs pre (framed tag new) post _ size))
+    length_framed tag new ∙ ap (λ (x : ℕ). header_size_of x + x) m ∙ ap (λ (x : ℕ). x + c.args.more) (sym c.header-size.ensures) in
+    c.measure.ensures fs (pre ++ post) e ∙ ap (λ (x : ℕ). fitting (length c.args.buffer.now) x) (sym (length_new fs pre (framed tag new) post _ size))

@@ -1,19 +1,19 @@
 use Rattle.std.proofs.Common.{ℕ, ◌+◌, List, length, get_or, take, sym, ap, ◌∙◌, arith, take_all}
 use Rattle.grow.specs.Splices.{overlay}
-use Rattle.grow.proofs.Joins.{bytes_of, no_piece, front-next, front_length, next-most}
-use Rattle.grow.proofs.Overlays.{overlay-none, overlay-more}
+use Rattle.grow.proofs.Joins.{bytes_of, no_piece, front_next, front_length, next_most}
+use Rattle.grow.proofs.Overlays.{overlay_none, overlay_more}
 use Rattle.grow.proofs.putting.put_pieces.Goals as goal
 
 pub loop-piece-init : goal.loop-piece-init
-loop-piece-init c = (omega arith, overlay-none c.args.at c.args.buffer.now)
+loop-piece-init c = (omega arith, overlay_none c.args.at c.args.buffer.now)
 
 pub put-bytes-requires : goal.put-bytes-requires
 put-bytes-requires c = record {
-  room = omega (arith, c.loop-piece.invariant.0, next-most c.args.pieces.now c.loop-piece.piece-index c.loop-piece-test.true, c.requires.room, c.loop-piece.auto.buffer);
+  room = omega (arith, c.loop-piece.invariant.0, next_most c.args.pieces.now c.loop-piece.piece-index c.loop-piece-test.true, c.requires.room, c.loop-piece.auto.buffer);
 }
 
 pub overflow-add-place : goal.overflow-add-place
-overflow-add-place c = omega (arith, c.loop-piece.invariant.0, next-most c.args.pieces.now c.loop-piece.piece-index c.loop-piece-test.true, c.requires.room)
+overflow-add-place c = omega (arith, c.loop-piece.invariant.0, next_most c.args.pieces.now c.loop-piece.piece-index c.loop-piece-test.true, c.requires.room)
 
 pub loop-piece-preserved : goal.loop-piece-preserved
 loop-piece-preserved c =
@@ -26,8 +26,8 @@ loop-piece-preserved c =
       c.put-bytes.ensures
           ∙ ap (λ (x : ℕ). overlay x piece c.loop-piece.buffer) inv.0
           ∙ ap (overlay (c.args.at + length front) piece) inv.1
-          ∙ overlay-more c.args.at front piece c.args.buffer.now (omega (arith, c.requires.room))
-          ∙ ap (λ (x : List ℕ). overlay c.args.at x c.args.buffer.now) (sym (front-next pieces i c.loop-piece-test.true)),
+          ∙ overlay_more c.args.at front piece c.args.buffer.now (omega (arith, c.requires.room))
+          ∙ ap (λ (x : List ℕ). overlay c.args.at x c.args.buffer.now) (sym (front_next pieces i c.loop-piece-test.true)),
     )
 
 pub returns : goal.returns

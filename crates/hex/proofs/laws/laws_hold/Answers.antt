@@ -1,5 +1,5 @@
-use Rattle.hex.proofs.Inverse.{written-is-read, read-was-written}
+use Rattle.hex.proofs.Inverse.{written_is_read, read_was_written}
 use Rattle.hex.proofs.laws.laws_hold.Goals as goal
 
 pub returns : goal.returns
-returns c = record { read = written-is-read; written = read-was-written }
+returns c = record { read = written_is_read; written = read_was_written }

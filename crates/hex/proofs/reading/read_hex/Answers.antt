@@ -1,7 +1,7 @@
 use Rattle.std.proofs.Common.{◌≡◌, ℕ, ◌+◌, ◌-◌, ◌*◌, List, [], ◌∷◌, ◌++◌, length, take, drop, vec_items, sym, refl, ap, ◌∙◌, rules}
 use Rattle.std.proofs.lemmas.Slice.{pushed}
 use Rattle.hex.specs.Digits.{bytes_of}
-use Rattle.hex.proofs.Stepping.{withAll, next-byte}
+use Rattle.hex.proofs.Stepping.{with_all, next_byte}
 use Rattle.hex.proofs.reading.read_hex.Goals as goal
 
 pub loop-rest-preserved : goal.loop-rest-preserved
@@ -11,5 +11,5 @@ loop-rest-preserved c =
     let byte : ℕ = c.in-Some-Some.high * 16 + c.in-Some-Some.low in
     let more : vec_items c.push.new.self ≡ front ++ byte ∷ [] = pushed (byte ∷ []) refl c.in-ok-push.was c.push.ensures.items in
     c.loop-rest.invariant
-    ∙ next-byte front rest (search rules) c.value.result c.value-in-len2-up.result c.value.ensures.value c.value-in-len2-up.ensures.value c.in-Some-Some.high c.in-Some-Some.low c.in-Some-Some.is-0 c.in-Some-Some.is-1
-    ∙ ap (λ (x : List ℕ). withAll x (bytes_of (take (length rest - 2) (drop 2 rest)))) (sym more)
+    ∙ next_byte front rest (search rules) c.value.result c.value-in-len2-up.result c.value.ensures.value c.value-in-len2-up.ensures.value c.in-Some-Some.high c.in-Some-Some.low c.in-Some-Some.is-0 c.in-Some-Some.is-1
+    ∙ ap (λ (x : List ℕ). with_all x (bytes_of (take (length rest - 2) (drop 2 rest)))) (sym more)

@@ -1,26 +1,26 @@
 use Rattle.std.proofs.Common.{ap}
-use Rattle.content.specs.Contents.{contentIn}
-use Rattle.imprint.specs.Contents.{givenBytes}
-use Rattle.imprint.proofs.Choosing.{own-digests, both_told, digests-at, digests-in}
+use Rattle.content.specs.Contents.{content_in}
+use Rattle.imprint.specs.Contents.{given_bytes}
+use Rattle.imprint.proofs.Choosing.{own_digests, both_told, digests_at, digests_in_lem}
 use Rattle.imprint.proofs.contents.content_digest.Goals as goal
 
 pub returns-in-Some-None : goal.returns-in-Some-None
 returns-in-Some-None g c =
     let D = g.G.Digest.value in
     let found = c.in-Ok.ensures in
-    let answer = own-digests D c.in-Ok.own c.in-Some-None.content _ c.digest-of-in-Some-None.result
-    c.in-Some-None.is-0 (ap (givenBytes g.S.Source.bytes) c.in-Some-None.is-1) c.digest-of-in-Some-None.ensures in
+    let answer = own_digests D c.in-Ok.own c.in-Some-None.content _ c.digest-of-in-Some-None.result
+    c.in-Some-None.is-0 (ap (given_bytes g.S.Source.bytes) c.in-Some-None.is-1) c.digest-of-in-Some-None.ensures in
     record {
-      computed = digests-in D c.in-Ok.own _ _ answer (contentIn c.args.file.now c.args.message.now.info.content) found.computed;
-      meaning = λ settings levels f k m. digests-at D c.in-Ok.own _ _ answer _ (found.meaning settings f levels k.shape k.valid k.bytes-are m);
+      computed = digests_in_lem D c.in-Ok.own _ _ answer (content_in c.args.file.now c.args.message.now.info.content) found.computed;
+      meaning = λ settings levels f k m. digests_at D c.in-Ok.own _ _ answer _ (found.meaning settings f levels k.shape k.valid k.bytes_are m);
     }
 
 pub returns-in-Some-Some : goal.returns-in-Some-Some
 returns-in-Some-Some g c =
     let D = g.G.Digest.value in
     let found = c.in-Ok.ensures in
-    let answer = both_told D c.in-Ok.own c.in-Some-Some.field-0-0 _ _ c.in-Some-Some.is-0 (ap (givenBytes g.S.Source.bytes) c.in-Some-Some.is-1) in
+    let answer = both_told D c.in-Ok.own c.in-Some-Some.field-0-0 _ _ c.in-Some-Some.is-0 (ap (given_bytes g.S.Source.bytes) c.in-Some-Some.is-1) in
     record {
-      computed = digests-in D c.in-Ok.own _ _ answer (contentIn c.args.file.now c.args.message.now.info.content) found.computed;
-      meaning = λ settings levels f k m. digests-at D c.in-Ok.own _ _ answer _ (found.meaning settings f levels k.shape k.valid k.bytes-are m);
+      computed = digests_in_lem D c.in-Ok.own _ _ answer (content_in c.args.file.now c.args.message.now.info.content) found.computed;
+      meaning = λ settings levels f k m. digests_at D c.in-Ok.own _ _ answer _ (found.meaning settings f levels k.shape k.valid k.bytes_are m);
     }

@@ -1,28 +1,28 @@
 use Rattle.std.proofs.Common.{◌≡◌, ℕ, List, [], ◌++◌, length, drop, refl, ap, ◌∙◌, arith}
 use Rattle.std.proofs.lemmas.List.{append_assoc}
 use Rattle.imprint.specs.Inputs.{bytes_of}
-use Rattle.imprint.proofs.Writing.{four-long, put_next}
+use Rattle.imprint.proofs.Writing.{four_long, put_next}
 use Rattle.imprint.proofs.inputs.put_pieces.Goals as goal
 
 pub put-type-end-requires : goal.put-type-end-requires
 put-type-end-requires c =
     let x = c.args.input.now in
-    omega (arith, four-long x.content_type.now x.content_digest.now x.fields.now x.index.now)
+    omega (arith, four_long x.content_type.now x.content_digest.now x.fields.now x.index.now)
 
 pub put-digest-end-requires : goal.put-digest-end-requires
 put-digest-end-requires c =
     let x = c.args.input.now in
-    omega (arith, four-long x.content_type.now x.content_digest.now x.fields.now x.index.now)
+    omega (arith, four_long x.content_type.now x.content_digest.now x.fields.now x.index.now)
 
 pub put-fields-end-requires : goal.put-fields-end-requires
 put-fields-end-requires c =
     let x = c.args.input.now in
-    omega (arith, four-long x.content_type.now x.content_digest.now x.fields.now x.index.now)
+    omega (arith, four_long x.content_type.now x.content_digest.now x.fields.now x.index.now)
 
 pub put-requires : goal.put-requires
 put-requires c =
     let x = c.args.input.now in
-    omega (arith, four-long x.content_type.now x.content_digest.now x.fields.now x.index.now)
+    omega (arith, four_long x.content_type.now x.content_digest.now x.fields.now x.index.now)
 
 pub returns : goal.returns
 returns c =

@@ -1,8 +1,8 @@
 use Rattle.std.proofs.Common.{ap, ◌∙◌}
 use Rattle.fields.specs.Reads.{broke}
-use Rattle.fields.proofs.Steps.{gives-cases}
-use Rattle.index.proofs.IndexLinks.{link-whole}
-use Rattle.index.proofs.IndexPlaces.{whole-lies}
+use Rattle.fields.proofs.Steps.{gives_cases}
+use Rattle.index.proofs.IndexLinks.{link_whole}
+use Rattle.index.proofs.IndexPlaces.{whole_lies}
 use Rattle.index.proofs.indexes.read_index.Goals as goal
 
 pub returns : goal.returns
@@ -13,6 +13,6 @@ returns c =
     let end = c.args.reader.end in
     record {
       computed = read;
-      meaning = λ t surplus levels v l e. ap broke read ∙ link-whole bytes at end t surplus levels v l e;
-      places = λ t surplus levels v l e. gives-cases _ _ _ read (whole-lies bytes at end t surplus levels v l e);
+      meaning = λ t surplus levels v l e. ap broke read ∙ link_whole bytes at end t surplus levels v l e;
+      places = λ t surplus levels v l e. gives_cases _ _ _ read (whole_lies bytes at end t surplus levels v l e);
     }

@@ -1,17 +1,17 @@
-use Rattle.index.proofs.AlgorithmTrees.{algorithm-of, algorithm-kept}
-use Rattle.index.proofs.IndexTrees.{no-break-is-index, index-has-no-break}
-use Rattle.index.proofs.EntryLimits.{none-too-many}
-use Rattle.index.proofs.Forming.{written-is-well}
-use Rattle.index.proofs.Inside.{trees-tell}
+use Rattle.index.proofs.AlgorithmTrees.{algorithm_of_lem, algorithm_kept}
+use Rattle.index.proofs.IndexTrees.{no_break_is_index, index_has_no_break}
+use Rattle.index.proofs.EntryLimits.{none_too_many}
+use Rattle.index.proofs.Forming.{written_is_well}
+use Rattle.index.proofs.Inside.{trees_tell}
 use Rattle.index.proofs.laws.laws_hold.Goals as goal
 
 pub returns : goal.returns
 returns c = record {
-  no-break-is-algorithm = algorithm-of;
-  algorithm-has-no-break = algorithm-kept;
-  no-break-is-index = no-break-is-index;
-  index-has-no-break = index-has-no-break;
-  none-too-many = none-too-many;
-  written-is-well = written-is-well;
-  trees-tell = trees-tell;
+  no-break-is-algorithm = algorithm_of_lem;
+  algorithm-has-no-break = algorithm_kept;
+  no_break_is_index = no_break_is_index;
+  index_has_no_break = index_has_no_break;
+  none_too_many = none_too_many;
+  written_is_well = written_is_well;
+  trees_tell = trees_tell;
 }

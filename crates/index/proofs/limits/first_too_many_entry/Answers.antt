@@ -1,6 +1,6 @@
 use Rattle.std.proofs.Common.{◌≡◌, ap, ◌∙◌}
 use Rattle.index.specs.declared.located.IndexParts.{IndexParts}
-use Rattle.index.specs.Limits.{firstPastEntry}
+use Rattle.index.specs.Limits.{first_past_entry}
 use Rattle.index.proofs.EntryLimits.{bytes_past}
 use Rattle.index.proofs.limits.first_too_many_entry.Goals as goal
 
@@ -10,5 +10,5 @@ returns c =
     let bytes = c.args.file.now in
     record {
       computed = found;
-      meaning = λ x levels at end v l e m. found ∙ ap (λ (y : IndexParts). firstPastEntry bytes y) m ∙ bytes_past x levels bytes at end v l e;
+      meaning = λ x levels at end v l e m. found ∙ ap (λ (y : IndexParts). first_past_entry bytes y) m ∙ bytes_past x levels bytes at end v l e;
     }

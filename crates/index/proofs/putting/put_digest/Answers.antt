@@ -1,6 +1,6 @@
 use Rattle.std.proofs.Common.{◌≡◌, ℕ, ◌+◌, ◌-◌, List, [], ◌++◌, length, take, drop, ap, ◌∙◌, arith}
 use Rattle.std.proofs.lemmas.List.{append-nil, drop_all, length-take, length-drop}
-use Rattle.index.proofs.Areas.{part-put}
+use Rattle.index.proofs.Areas.{part_put}
 use Rattle.index.proofs.putting.put_digest.Goals as goal
 
 pub returns : goal.returns
@@ -14,6 +14,6 @@ returns g c =
       ends = ap (λ (n : ℕ). at + n) width;
       digest = λ few.
           let wrote = (c.digest-bytes.ensures.fits few).fits (omega (arith, size)) in
-          part-put area _ c.digest-bytes.new.area at _ (omega (arith, width, (g.met.G.Digest.sized c.args.bytes.now).0)) (omega (arith, width, c.requires))
+          part_put area _ c.digest-bytes.new.area at _ (omega (arith, width, (g.met.G.Digest.sized c.args.bytes.now).0)) (omega (arith, width, c.requires))
           (wrote.1 ∙ ap (λ (x : List ℕ). g.G.Digest.value c.args.bytes.now ++ x) (drop_all g.G.Digest.size part (omega (arith, size))) ∙ append-nil _);
     }

@@ -1,9 +1,9 @@
 use Rattle.std.proofs.Common.{sym, ◌∙◌}
 use Rattle.index.proofs.Areas.{put_then, put_same}
-use Rattle.index.proofs.Sizing.{name-bytes}
+use Rattle.index.proofs.Sizing.{name_bytes}
 use Rattle.index.proofs.writing.put_algorithm.Goals as goal
 
 pub returns : goal.returns
 returns c =
-    put_same _ _ _ _ _ _ (name-bytes c.args.name.now c.framed-size.result (sym c.is-left-out.ensures ∙ c.if-is-left-out.false) c.framed-size.ensures.value)
+    put_same _ _ _ _ _ _ (name_bytes c.args.name.now c.framed-size.result (sym c.is-left-out.ensures ∙ c.if-is-left-out.false) c.framed-size.ensures.value)
     (put_then _ _ _ _ _ _ _ _ c.put-header-inside.ensures (put_then _ _ _ _ _ _ _ _ c.put-header-body.ensures c.put.ensures))

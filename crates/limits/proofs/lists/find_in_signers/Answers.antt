@@ -1,30 +1,30 @@
 use Rattle.std.proofs.Common.{◌≡◌, ℕ, ◌-◌, List, Result, sym, refl, ap, ◌∙◌}
 use Rattle.cms.specs.declared.located.Signer.{Signer}
-use Rattle.cms.specs.Records.{signerOf, signerStop}
-use Rattle.limits.specs.Past.{left_of, attributesPast}
-use Rattle.limits.proofs.Behind.{past_all, past-done, past-none, past-found, past-on}
+use Rattle.cms.specs.Records.{signer_of, signer_stop}
+use Rattle.limits.specs.Past.{left_of, attributes_past}
+use Rattle.limits.proofs.Behind.{past_all, past_done, past_none, past_found, past_on}
 use Rattle.limits.proofs.lists.find_in_signers.Goals as goal
 
 -- the bytes and the end are those that the reader began with
-same-signer : (file bytes : List ℕ) (at stop end : ℕ) (r : Result Signer ℕ) → bytes ≡ file → stop ≡ end → r ≡ signerOf bytes at stop → r ≡ signerOf file at end
-same-signer file bytes at stop end r p q e = e ∙ ap (λ (x : List ℕ). signerOf x at stop) p ∙ ap (signerOf file at) q
+same_signer : (file bytes : List ℕ) (at stop end : ℕ) (r : Result Signer ℕ) → bytes ≡ file → stop ≡ end → r ≡ signer_of bytes at stop → r ≡ signer_of file at end
+same_signer file bytes at stop end r p q e = e ∙ ap (λ (x : List ℕ). signer_of x at stop) p ∙ ap (signer_of file at) q
 
 pub loop-init : goal.loop-init
-loop-init c = (refl, refl, past_all signerOf signerStop attributesPast c.args.inside.bytes.now c.args.inside.end c.args.limit c.args.inside.at)
+loop-init c = (refl, refl, past_all signer_of signer_stop attributes_past c.args.inside.bytes.now c.args.inside.end c.args.limit c.args.inside.at)
 
 pub returns-in-default : goal.returns-in-default
 returns-in-default c =
     let inv = c.loop.invariant in
-    sym (inv.2 ∙ past-none signerOf signerStop attributesPast c.args.inside.bytes.now c.args.inside.end c.args.limit c.loop.counter c.loop.reader.at _ c.loop-test.true
-    (same-signer _ _ _ _ _ _ inv.0 inv.1 c.in-default.ensures.value))
+    sym (inv.2 ∙ past_none signer_of signer_stop attributes_past c.args.inside.bytes.now c.args.inside.end c.args.limit c.loop.counter c.loop.reader.at _ c.loop-test.true
+    (same_signer _ _ _ _ _ _ inv.0 inv.1 c.in-default.ensures.value))
 
 pub returns-in-Some : goal.returns-in-Some
 returns-in-Some c =
     let inv = c.loop.invariant in
     let same = c.read-signer.ensures.bytes ∙ inv.0 in
-    sym (inv.2 ∙ past-found signerOf signerStop attributesPast c.args.inside.bytes.now c.args.inside.end c.args.limit c.loop.counter c.loop.reader.at _ _ c.loop-test.true
-    (same-signer _ _ _ _ _ _ inv.0 inv.1 c.in-Ok.ensures.value)
-    (sym (c.in-Some.ensures ∙ ap (λ (x : List ℕ). attributesPast x c.in-Ok.signer) same)))
+    sym (inv.2 ∙ past_found signer_of signer_stop attributes_past c.args.inside.bytes.now c.args.inside.end c.args.limit c.loop.counter c.loop.reader.at _ _ c.loop-test.true
+    (same_signer _ _ _ _ _ _ inv.0 inv.1 c.in-Ok.ensures.value)
+    (sym (c.in-Some.ensures ∙ ap (λ (x : List ℕ). attributes_past x c.in-Ok.signer) same)))
 
 pub loop-preserved : goal.loop-preserved
 loop-preserved c =
@@ -33,13 +33,13 @@ loop-preserved c =
     let same = read.bytes ∙ inv.0 in (
       same,
       read.end ∙ inv.1,
-      inv.2 ∙ past-on signerOf signerStop attributesPast c.args.inside.bytes.now c.args.inside.end c.args.limit c.loop.counter c.loop.reader.at _ _ c.loop-test.true
-          (same-signer _ _ _ _ _ _ inv.0 inv.1 c.in-Ok.ensures.value)
-          (sym (c.in-default-find-in-signer.ensures ∙ ap (λ (x : List ℕ). attributesPast x c.in-Ok.signer) same)) c.in-Ok.ensures.moved,
+      inv.2 ∙ past_on signer_of signer_stop attributes_past c.args.inside.bytes.now c.args.inside.end c.args.limit c.loop.counter c.loop.reader.at _ _ c.loop-test.true
+          (same_signer _ _ _ _ _ _ inv.0 inv.1 c.in-Ok.ensures.value)
+          (sym (c.in-default-find-in-signer.ensures ∙ ap (λ (x : List ℕ). attributes_past x c.in-Ok.signer) same)) c.in-Ok.ensures.moved,
     )
 
 pub returns : goal.returns
 returns c =
     let inv = c.loop.invariant in
     c.place-left.ensures ∙ ap (left_of c.loop.reader.at) inv.1
-    ∙ sym (inv.2 ∙ past-done signerOf signerStop attributesPast c.args.inside.bytes.now c.args.inside.end c.args.limit c.loop.counter c.loop.reader.at c.loop-test.false)
+    ∙ sym (inv.2 ∙ past_done signer_of signer_stop attributes_past c.args.inside.bytes.now c.args.inside.end c.args.limit c.loop.counter c.loop.reader.at c.loop-test.false)

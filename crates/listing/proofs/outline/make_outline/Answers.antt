@@ -1,13 +1,13 @@
 use Rattle.std.proofs.Common.{arith, rules}
 use Rattle.std.proofs.lemmas.Result.{err_from_is_err_and}
-use Rattle.listing.proofs.Ends.{whole_of, forms-of, lines-of}
+use Rattle.listing.proofs.Ends.{whole_of, forms_of, lines_of_lem}
 use Rattle.listing.proofs.outline.make_outline.Goals as goal
 
 pub list-elements-requires : goal.list-elements-requires
 list-elements-requires c = record {
   fits = search rules;
   deep = search rules;
-  forms = forms-of c.args.bytes.now _ c.in-Ok.ensures.meaning c.if-end-bytes.false;
+  forms = forms_of c.args.bytes.now _ c.in-Ok.ensures.meaning c.if-end-bytes.false;
 }
 
 pub returns-in-err-list-elements : goal.returns-in-err-list-elements
@@ -17,4 +17,4 @@ returns-in-err-list-elements c =
 
 pub returns-in-ok-list-elements : goal.returns-in-ok-list-elements
 returns-in-ok-list-elements c =
-    lines-of c.args.bytes.now _ _ _ (search rules, search rules) c.in-Ok.ensures.meaning c.if-end-bytes.false c.new-lines.ensures.items c.in-ok-list-elements.ensures
+    lines_of_lem c.args.bytes.now _ _ _ (search rules, search rules) c.in-Ok.ensures.meaning c.if-end-bytes.false c.new-lines.ensures.items c.in-ok-list-elements.ensures

@@ -1,12 +1,12 @@
-use Rattle.matching.proofs.Matched.{none-unmatched, found-is-first, inside-tells}
-use Rattle.matching.proofs.Surveys.{both-sides, all-rows}
+use Rattle.matching.proofs.Matched.{none_unmatched, found_is_first, inside_tells}
+use Rattle.matching.proofs.Surveys.{both_sides, all_rows}
 use Rattle.matching.specs.Rows.{rows_of}
 use Rattle.matching.proofs.laws.laws_hold.Goals as goal
 
 pub returns : goal.returns
 returns c = record {
-  none-unmatched = none-unmatched;
-  found-is-first = found-is-first;
-  inside-tells = inside-tells;
-  all-surveyed = λ D lists trees x. (all-rows D lists trees x, both-sides (rows_of D lists trees x));
+  none_unmatched = none_unmatched;
+  found_is_first = found_is_first;
+  inside_tells = inside_tells;
+  all-surveyed = λ D lists trees x. (all_rows D lists trees x, both_sides (rows_of D lists trees x));
 }

@@ -1,11 +1,11 @@
 use Rattle.std.proofs.Common.{◌≡◌, ℕ, ◌-◌, List, length, take, sym, refl, ap, ◌∙◌, subst, arith}
 use Rattle.std.proofs.lemmas.Result.{err_from_is_err_and}
-use Rattle.message.proofs.Lying.{file-lies}
+use Rattle.message.proofs.Lying.{file_lies}
 use Rattle.opening.specs.declared.refusal.Refusal.{Refusal}
-use Rattle.opening.specs.Accepted.{fileSettings, Fits, Accepted}
+use Rattle.opening.specs.Accepted.{file_settings, Fits, Accepted}
 use Rattle.opening.specs.Steps.{RefusedFile}
-use Rattle.opening.proofs.Telling.{refused-by, front-is, signers-moved, no_number}
-use Rattle.opening.proofs.Opening.{signer-opened}
+use Rattle.opening.proofs.Telling.{refused_by, front_is, signers_moved, no_number}
+use Rattle.opening.proofs.Opening.{signer_opened}
 use Rattle.opening.proofs.gate.open_signer.Goals as goal
 
 pub returns-in-err-message : goal.returns-in-err-message
@@ -13,8 +13,8 @@ returns-in-err-message c =
     let p = err_from_is_err_and c.from-residual.result c.from-residual.ensures.1 in
     let fits : Fits c.args.buffer.now c.args.n = record { some = omega arith; short = omega arith; there = omega arith } in
     let r = subst (λ (y : Refusal). RefusedFile (take (c.args.n - 0) c.args.buffer.now) y) (sym p.2) c.in-err-message.ensures in
-    rw p.1 (refused-by c.args.buffer.now c.args.n c.args.signer p.0 fits
-    (subst (λ (x : List ℕ). RefusedFile x p.0) (front-is c.args.buffer.now c.args.n) r))
+    rw p.1 (refused_by c.args.buffer.now c.args.n c.args.signer p.0 fits
+    (subst (λ (x : List ℕ). RefusedFile x p.0) (front_is c.args.buffer.now c.args.n) r))
 
 pub returns-in-None : goal.returns-in-None
 returns-in-None c =
@@ -22,10 +22,10 @@ returns-in-None c =
     let k = c.in-ok-message.ensures in
     let f = k.0 in
     let file = take (c.args.n - 0) c.args.buffer.now in
-    let l = file-lies fileSettings 32 file f k.1.formed c.in-ok-message.message k.2 in
+    let l = file_lies file_settings 32 file f k.1.formed c.in-ok-message.message k.2 in
     let i = c.signers-of.ensures in
-    let s = signers-moved l.levels file c.signers-of.result.bytes.now _ _ _ _ f.signers (sym i.0) (sym i.1) (sym i.2) l.signers in
-    (fits, (f, subst (λ (x : List ℕ). Accepted x f) (front-is c.args.buffer.now c.args.n) k.1, no_number c.args.signer _ f.signers (c.in-None.ensures l.levels f.signers s)))
+    let s = signers_moved l.levels file c.signers-of.result.bytes.now _ _ _ _ f.signers (sym i.0) (sym i.1) (sym i.2) l.signers in
+    (fits, (f, subst (λ (x : List ℕ). Accepted x f) (front_is c.args.buffer.now c.args.n) k.1, no_number c.args.signer _ f.signers (c.in-None.ensures l.levels f.signers s)))
 
 pub returns-in-Some : goal.returns-in-Some
 returns-in-Some c =
@@ -33,10 +33,10 @@ returns-in-Some c =
     let k = c.in-ok-message.ensures in
     let f = k.0 in
     let file = take (c.args.n - 0) c.args.buffer.now in
-    let l = file-lies fileSettings 32 file f k.1.formed c.in-ok-message.message k.2 in
+    let l = file_lies file_settings 32 file f k.1.formed c.in-ok-message.message k.2 in
     let i = c.signers-of.ensures in
-    let s = signers-moved l.levels file c.signers-of.result.bytes.now _ _ _ _ f.signers (sym i.0) (sym i.1) (sym i.2) l.signers in
-    signer-opened c.args.buffer.now c.args.n c.args.signer c.signers-of.result.bytes.now l.levels c.signers-of.result.at c.signers-of.result.end
+    let s = signers_moved l.levels file c.signers-of.result.bytes.now _ _ _ _ f.signers (sym i.0) (sym i.1) (sym i.2) l.signers in
+    signer_opened c.args.buffer.now c.args.n c.args.signer c.signers-of.result.bytes.now l.levels c.signers-of.result.at c.signers-of.result.end
     c.in-ok-message.message c.in-Some.signer f fits
-    (subst (λ (x : List ℕ). Accepted x f) (front-is c.args.buffer.now c.args.n) k.1) k.2 (i.0 ∙ front-is c.args.buffer.now c.args.n) s
+    (subst (λ (x : List ℕ). Accepted x f) (front_is c.args.buffer.now c.args.n) k.1) k.2 (i.0 ∙ front_is c.args.buffer.now c.args.n) s
     (c.in-Some.ensures l.levels f.signers s)

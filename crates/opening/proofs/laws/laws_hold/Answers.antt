@@ -1,5 +1,5 @@
-use Rattle.opening.proofs.Exact.{exactly, one-accepted}
+use Rattle.opening.proofs.Exact.{exactly, one_accepted}
 use Rattle.opening.proofs.laws.laws_hold.Goals as goal
 
 pub returns : goal.returns
-returns c = record { exactly = exactly; one-accepted = one-accepted }
+returns c = record { exactly = exactly; one_accepted = one_accepted }

@@ -2,11 +2,11 @@ use Rattle.std.proofs.Common.{◌≡◌, ℕ, List, length, Some, None, Option, 
 use Rattle.der.specs.Trees.{Tree}
 use Rattle.fields.specs.declared.located.Entries.{Entries}
 use Rattle.model.specs.Parts.{given}
-use Rattle.message.specs.Lies.{ListLies, entriesCount}
+use Rattle.message.specs.Lies.{ListLies, entries_count}
 use Rattle.opening.proofs.reading.tell.Goals as goal
 
 -- a list has as many entries as its record says
-counted : (levels : ℕ) (bytes : List ℕ) (o : Option Entries) (ts : Option (List Tree)) → ListLies levels bytes o ts → entriesCount o ≡ length (given ts)
+counted : (levels : ℕ) (bytes : List ℕ) (o : Option Entries) (ts : Option (List Tree)) → ListLies levels bytes o ts → entries_count o ≡ length (given ts)
 counted levels bytes None None l = refl
 counted levels bytes None (Some ts) l = absurd l
 counted levels bytes (Some e) None l = absurd l

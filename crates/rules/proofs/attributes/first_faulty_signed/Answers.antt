@@ -1,20 +1,20 @@
 use Rattle.std.proofs.Common.{◌≡◌, ℕ, ◌<◌, List, [], ◌∷◌, ◌++◌, sym, refl, ap, ◌∙◌, subst, arith}
-use Rattle.rules.specs.Attributes.{faultySigned, firstFaulty}
+use Rattle.rules.specs.Attributes.{faulty_signed, first_faulty}
 use Rattle.rules.specs.Standing.{Row}
-use Rattle.rules.proofs.Reading.{no-break, turn, rows_join, row-empty}
-use Rattle.rules.proofs.Turning.{same-reading, faulty-found, faulty-missed, faulty-none}
+use Rattle.rules.proofs.Reading.{no_break, turn, rows_join, row_empty}
+use Rattle.rules.proofs.Turning.{same_reading, faulty_found, faulty_missed, faulty_none}
 use Rattle.rules.proofs.attributes.first_faulty_signed.Goals as goal
 
 pub loop-reader-init : goal.loop-reader-init
-loop-reader-init c = (refl, refl, (λ levels ms expected r e. ([], ms, row-empty levels c.args.signed.bytes.now c.args.signed.at (omega (arith, r.order, r.inside)), r, refl)))
+loop-reader-init c = (refl, refl, (λ levels ms expected r e. ([], ms, row_empty levels c.args.signed.bytes.now c.args.signed.at (omega (arith, r.order, r.inside)), r, refl)))
 
 pub returns-in-default : goal.returns-in-default
 returns-in-default c = λ levels ms expected r e.
     let inv = c.loop-reader.invariant in
     let left = inv.2 levels ms expected r e in
     let l : c.loop-reader.reader.at < c.args.signed.end = omega (arith, inv.1, c.loop-reader-test.true) in
-    absurd (no-break levels c.args.signed.bytes.now c.loop-reader.reader.at c.args.signed.end l left.1 c.in-default.field-0 left.3
-    (same-reading c.loop-reader.reader.bytes.now c.args.signed.bytes.now _ c.loop-reader.reader.end c.args.signed.end _ inv.0 inv.1 c.in-default.ensures.value))
+    absurd (no_break levels c.args.signed.bytes.now c.loop-reader.reader.at c.args.signed.end l left.1 c.in-default.field-0 left.3
+    (same_reading c.loop-reader.reader.bytes.now c.args.signed.bytes.now _ c.loop-reader.reader.end c.args.signed.end _ inv.0 inv.1 c.in-default.ensures.value))
 
 pub returns-then-is-faulty-signed : goal.returns-then-is-faulty-signed
 returns-then-is-faulty-signed c = λ levels ms expected r e.
@@ -25,8 +25,8 @@ returns-then-is-faulty-signed c = λ levels ms expected r e.
     let end = c.args.signed.end in
     let l : at < end = omega (arith, inv.1, c.loop-reader-test.true) in
     let t = turn levels file at end l left.1 c.in-Ok.attribute left.3
-    (same-reading c.loop-reader.reader.bytes.now file _ c.loop-reader.reader.end end _ inv.0 inv.1 c.in-Ok.ensures.value) in
-    faulty-found (faultySigned expected) levels file c.args.signed.at at end left.0 left.1 c.in-Ok.attribute t
+    (same_reading c.loop-reader.reader.bytes.now file _ c.loop-reader.reader.end end _ inv.0 inv.1 c.in-Ok.ensures.value) in
+    faulty_found (faulty_signed expected) levels file c.args.signed.at at end left.0 left.1 c.in-Ok.attribute t
     (sym (c.is-faulty-signed.ensures levels _ file left.0 t.first expected refl left.2 t.there e) ∙ c.if-is-faulty-signed.true)
     ∙ sym left.4
 
@@ -42,8 +42,8 @@ loop-reader-preserved c =
           let end = c.args.signed.end in
           let l : at < end = omega (arith, inv.1, c.loop-reader-test.true) in
           let t = turn levels file at end l left.1 c.in-Ok.attribute left.3
-          (same-reading c.loop-reader.reader.bytes.now file _ c.loop-reader.reader.end end _ inv.0 inv.1 c.in-Ok.ensures.value) in
-          let m = faulty-missed (faultySigned expected) levels file c.args.signed.at at end left.0 left.1 c.in-Ok.attribute t
+          (same_reading c.loop-reader.reader.bytes.now file _ c.loop-reader.reader.end end _ inv.0 inv.1 c.in-Ok.ensures.value) in
+          let m = faulty_missed (faulty_signed expected) levels file c.args.signed.at at end left.0 left.1 c.in-Ok.attribute t
           (sym (c.is-faulty-signed.ensures levels _ file left.0 t.first expected refl left.2 t.there e) ∙ c.if-is-faulty-signed.false) in
           let moved = sym c.in-Ok.ensures.moved in
           let front = rows_join levels file c.args.signed.at at c.in-Ok.attribute.whole.end left.0 (t.first ∷ []) left.2 t.alone in (
@@ -51,7 +51,7 @@ loop-reader-preserved c =
             t.tail,
             subst (λ (a : ℕ). Row levels file c.args.signed.at a (left.0 ++ t.first ∷ [])) moved front,
             subst (λ (a : ℕ). Row levels file a end t.tail) moved t.others,
-            left.4 ∙ m ∙ ap (λ (a : ℕ). firstFaulty (faultySigned expected) (left.0 ++ t.first ∷ []) a t.tail) moved,
+            left.4 ∙ m ∙ ap (λ (a : ℕ). first_faulty (faulty_signed expected) (left.0 ++ t.first ∷ []) a t.tail) moved,
           )),
     )
 
@@ -60,4 +60,4 @@ returns c = λ levels ms expected r e.
     let inv = c.loop-reader.invariant in
     let left = inv.2 levels ms expected r e in
     let q : c.loop-reader.reader.at ≡ c.args.signed.end = omega (arith, inv.1, left.3.order, c.loop-reader-test.false) in
-    faulty-none (faultySigned expected) levels c.args.signed.bytes.now c.loop-reader.reader.at c.args.signed.end left.0 left.1 left.3 q ∙ sym left.4
+    faulty_none (faulty_signed expected) levels c.args.signed.bytes.now c.loop-reader.reader.at c.args.signed.end left.0 left.1 left.3 q ∙ sym left.4

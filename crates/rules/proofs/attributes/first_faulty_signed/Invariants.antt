@@ -1,7 +1,7 @@
 use Rattle.std.proofs.Common.{◌≡◌, ℕ, ◌-◌, List, []}
 use Rattle.der.specs.Trees.{Tree, encode}
 use Rattle.model.specs.Parts.{Attribute}
-use Rattle.rules.specs.Attributes.{firstFaulty, faultySigned}
+use Rattle.rules.specs.Attributes.{first_faulty, faulty_signed}
 use Rattle.rules.specs.Standing.{Row}
 use Rattle.rules.proofs.attributes.first_faulty_signed.Given as goal
 
@@ -12,7 +12,7 @@ invariant-loop-reader l =
     × ((levels : ℕ) (ms : List Attribute) (expected : Tree) → Row levels l.signed.bytes.now l.signed.at l.signed.end ms → l.content-type ≡ encode expected →
     (before : List Attribute) × (rest : List Attribute) × Row levels l.signed.bytes.now l.signed.at l.reader.at before
     × Row levels l.signed.bytes.now l.reader.at l.signed.end rest
-    × (firstFaulty (faultySigned expected) [] l.signed.at ms ≡ firstFaulty (faultySigned expected) before l.reader.at rest))
+    × (first_faulty (faulty_signed expected) [] l.signed.at ms ≡ first_faulty (faulty_signed expected) before l.reader.at rest))
 
 abbrev pub decreases-loop-reader : goal.decreases-loop-reader
 decreases-loop-reader l = l.reader.end - l.reader.at

@@ -5,15 +5,15 @@ use Rattle.sha256.specs.declared.words.Words.{Words}
 use Rattle.sha256.specs.Sha.{four, written}
 use Rattle.sha256.proofs.hash.write_words.Goals as goal
 
-two-halves : (w : Words) (area x y : List ℕ) → x ≡ four w.a ++ (four w.b ++ (four w.c ++ four w.d)) → y ≡ four w.e ++ (four w.f ++ (four w.g ++ four w.h)) → put_mid 16 16 (x ++ post_of 0 16 area) y ≡ written w ++ drop 32 area
+two_halves : (w : Words) (area x y : List ℕ) → x ≡ four w.a ++ (four w.b ++ (four w.c ++ four w.d)) → y ≡ four w.e ++ (four w.f ++ (four w.g ++ four w.h)) → put_mid 16 16 (x ++ post_of 0 16 area) y ≡ written w ++ drop 32 area
 unfolding written
-two-halves w area x y p q =
+two_halves w area x y p q =
     ap (λ z. put_mid 16 16 (z ++ post_of 0 16 area) y) p
     ∙ ap (put_mid 16 16 ((four w.a ++ (four w.b ++ (four w.c ++ four w.d))) ++ post_of 0 16 area)) q
     ∙ ap (λ z. written w ++ z) (drop-drop 16 16 area)
 
 pub returns : goal.returns
 returns c =
-    two-halves c.args.w c.args.area.now c.copy-from-slice.new.self c.copy-from-slice-2.new.self
+    two_halves c.args.w c.args.area.now c.copy-from-slice.new.self c.copy-from-slice-2.new.self
     (c.copy-from-slice.ensures.after ∙ c.bytes-of.ensures)
     (c.copy-from-slice-2.ensures.after ∙ c.bytes-of-2.ensures)

@@ -1,6 +1,6 @@
 use Rattle.std.proofs.Common.{◌≡◌, ◌+◌, ◌-◌, ◌*◌, ◌/◌, length, take, drop, sym, refl, ap, ◌∙◌, arith}
 use Rattle.sha256.specs.Sha.{compress, H}
-use Rattle.sha256.proofs.Chaining.{H-more}
+use Rattle.sha256.proofs.Chaining.{H_more}
 use Rattle.sha256.proofs.rounds.compress_blocks.Goals as goal
 
 pub loop-i-init : goal.loop-i-init
@@ -16,7 +16,7 @@ loop-i-preserved c =
     c.compressed-t.ensures
     ∙ ap (λ v. compress v (take (64 * i + 64 - 64 * i) (drop (64 * i) bytes))) c.loop-i.invariant
     ∙ ap (λ k. compress (H i s bytes) (take k (drop (64 * i) bytes))) width
-    ∙ sym (H-more i s bytes)
+    ∙ sym (H_more i s bytes)
 
 pub returns : goal.returns
 returns c =

@@ -1,9 +1,9 @@
-use Rattle.sha256.specs.Sha.{W, nextWord}
+use Rattle.sha256.specs.Sha.{W, next_word}
 use Rattle.sha256.specs.Windows.{word_at}
 use Rattle.sha256.proofs.rounds.first_window.Goals as goal
 
 pub returns : goal.returns
-unfolding word_at W nextWord
+unfolding word_at W next_word
 returns c =
     record {
       at0 = c.load.ensures;

@@ -1,5 +1,5 @@
-use Rattle.sha256.proofs.Bitwise.{majority-forms}
+use Rattle.sha256.proofs.Bitwise.{majority_forms}
 use Rattle.sha256.proofs.rounds.majority.Goals as goal
 
 pub returns : goal.returns
-returns c = majority-forms c.args.x c.args.y c.args.z c.ranges.x.fits c.ranges.y.fits c.ranges.z.fits
+returns c = majority_forms c.args.x c.args.y c.args.z c.ranges.x.fits c.ranges.y.fits c.ranges.z.fits

@@ -1,5 +1,5 @@
-use Rattle.sha3.proofs.Padding.{padded-bitwise, padded-whole}
+use Rattle.sha3.proofs.Padding.{padded_bitwise, padded_whole}
 use Rattle.sha3.proofs.laws.padding_stands.Goals as goal
 
 pub returns : goal.returns
-returns c = record { bits = padded-bitwise; whole = padded-whole }
+returns c = record { bits = padded_bitwise; whole = padded_whole }

@@ -1,12 +1,12 @@
 use Rattle.std.proofs.Common.{rules}
-use Rattle.sha3.proofs.Twists.{five-lanes, and-ptp, and-tpp, not-or-ppt, or-tpt}
+use Rattle.sha3.proofs.Twists.{five_lanes, and_ptp, and_tpp, not_or_ppt, or_tpt}
 use Rattle.sha3.proofs.permutation.twist2.Goals as goal
 
 pub returns : goal.returns
 returns c =
-    five-lanes
-    (or-tpt c.args.p.x0 c.args.p.x1 c.args.p.x2 (search rules) (search rules) (search rules))
-    (and-ptp c.args.p.x1 c.args.p.x2 c.args.p.x3 (search rules) (search rules) (search rules))
-    (and-tpp c.args.p.x2 c.args.p.x3 c.args.p.x4 (search rules) (search rules) (search rules))
-    (not-or-ppt c.args.p.x3 c.args.p.x4 c.args.p.x0 (search rules) (search rules) (search rules))
-    (and-ptp c.args.p.x4 c.args.p.x0 c.args.p.x1 (search rules) (search rules) (search rules))
+    five_lanes
+    (or_tpt c.args.p.x0 c.args.p.x1 c.args.p.x2 (search rules) (search rules) (search rules))
+    (and_ptp c.args.p.x1 c.args.p.x2 c.args.p.x3 (search rules) (search rules) (search rules))
+    (and_tpp c.args.p.x2 c.args.p.x3 c.args.p.x4 (search rules) (search rules) (search rules))
+    (not_or_ppt c.args.p.x3 c.args.p.x4 c.args.p.x0 (search rules) (search rules) (search rules))
+    (and_ptp c.args.p.x4 c.args.p.x0 c.args.p.x1 (search rules) (search rules) (search rules))

@@ -1,6 +1,6 @@
 use Rattle.std.proofs.Common.{◌≡◌, ℕ, List, length, drop, sym, refl, ap, ◌∙◌, arith}
-use Rattle.message.proofs.Made.{whole_part, split-file}
-use Rattle.index.proofs.EntryLimits.{none-too-many}
+use Rattle.message.proofs.Made.{whole_part, split_file}
+use Rattle.index.proofs.EntryLimits.{none_too_many}
 use Rattle.stamp.proofs.Indexing.{written_as, all_of}
 use Rattle.stamp.proofs.indexes.read_index_bytes.Goals as goal
 
@@ -9,12 +9,12 @@ returns-in-Err-read-index c =
     let s = c.in-default.ensures.meaning in
     let bytes = c.args.index.now in
     let n = c.in-default.field-0 in
-    let e = split-file c.args.levels bytes n s in
+    let e = split_file c.args.levels bytes n s in
     record {
       tree = s.0;
       surplus = drop n bytes;
       valid = s.1;
-      bytes-are = e ∙ whole_part bytes;
+      bytes_are = e ∙ whole_part bytes;
       first = sym (c.in-Err-read-index.ensures.meaning s.0 (drop n bytes) c.args.levels s.1 (omega arith) e);
     }
 
@@ -23,7 +23,7 @@ returns-in-Some c =
     let s = c.in-default.ensures.meaning in
     let bytes = c.args.index.now in
     let n = c.in-default.field-0 in
-    let e = split-file c.args.levels bytes n s in
+    let e = split_file c.args.levels bytes n s in
     let w = written_as c.args.levels bytes n s c.in-Ok.parts (sym (c.in-Ok.ensures.meaning s.0 (drop n bytes) c.args.levels s.1 (omega arith) e))
     (c.in-Ok.ensures.places s.0 (drop n bytes) c.args.levels s.1 (omega arith) e) in
     (w.0, w.1, sym (c.in-Some.ensures.meaning w.0 c.args.levels 0 (length bytes) w.1.valid (omega arith) (all_of c.args.levels bytes w.0 w.1) w.2))
@@ -33,8 +33,8 @@ returns-in-None c =
     let s = c.in-default.ensures.meaning in
     let bytes = c.args.index.now in
     let n = c.in-default.field-0 in
-    let e = split-file c.args.levels bytes n s in
+    let e = split_file c.args.levels bytes n s in
     let w = written_as c.args.levels bytes n s c.in-Ok.parts (sym (c.in-Ok.ensures.meaning s.0 (drop n bytes) c.args.levels s.1 (omega arith) e))
     (c.in-Ok.ensures.places s.0 (drop n bytes) c.args.levels s.1 (omega arith) e) in
     let few = sym (c.in-None.ensures.meaning w.0 c.args.levels 0 (length bytes) w.1.valid (omega arith) (all_of c.args.levels bytes w.0 w.1) w.2) in
-    (w.0, record { written = w.1; shape = (none-too-many 0 w.0).0 few }, w.2)
+    (w.0, record { written = w.1; shape = (none_too_many 0 w.0).0 few }, w.2)

@@ -1,5 +1,5 @@
 use Rattle.std.proofs.Common.{◌≡◌, sym, refl, ap, ◌∙◌}
-use Rattle.stamp.proofs.Holding.{uncarried, misindexed, stamp-at}
+use Rattle.stamp.proofs.Holding.{uncarried, misindexed, stamp_at}
 use Rattle.stamp.proofs.stamps.read_stamp.Goals as goal
 
 pub returns-in-Err-read-carried : goal.returns-in-Err-read-carried
@@ -12,5 +12,5 @@ returns-in-Err-read-index-bytes c =
 
 pub returns-in-Ok-read-index-bytes : goal.returns-in-Ok-read-index-bytes
 returns-in-Ok-read-index-bytes c =
-    stamp-at c.args.token.now c.in-Ok.parts c.in-Ok.ensures c.in-Ok-read-carried.span c.whole.result.now c.in-Ok-read-index-bytes.entries
+    stamp_at c.args.token.now c.in-Ok.parts c.in-Ok.ensures c.in-Ok-read-carried.span c.whole.result.now c.in-Ok-read-index-bytes.entries
     c.in-Ok-read-carried.ensures c.whole.ensures c.in-Ok-read-index-bytes.ensures

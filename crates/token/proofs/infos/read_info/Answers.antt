@@ -1,9 +1,9 @@
 use Rattle.std.proofs.Common.{◌≡◌, length, drop, sym, refl, ap, ◌∙◌, arith}
 use Rattle.fields.specs.Reads.{broke}
-use Rattle.fields.proofs.Steps.{gives-cases}
-use Rattle.message.proofs.Made.{whole_part, split-file}
-use Rattle.token.proofs.Links.{link-whole}
-use Rattle.token.proofs.Lies.{whole-lies}
+use Rattle.fields.proofs.Steps.{gives_cases}
+use Rattle.message.proofs.Made.{whole_part, split_file}
+use Rattle.token.proofs.Links.{link_whole}
+use Rattle.token.proofs.Lies.{whole_lies}
 use Rattle.token.proofs.Telling.{told_at}
 use Rattle.token.proofs.infos.read_info.Goals as goal
 
@@ -12,13 +12,13 @@ returns-in-Err-read-parts c =
     let s = c.in-default.ensures.meaning in
     let bytes = c.args.contents.now in
     let n = c.in-default.field-0 in
-    let e = split-file 32 bytes n s in
+    let e = split_file 32 bytes n s in
     record {
       tree = s.0;
       surplus = drop n bytes;
       valid = s.1;
-      bytes-are = e ∙ whole_part bytes;
-      first = sym (link-whole bytes 0 (length bytes) s.0 (drop n bytes) 32 s.1 (omega arith) e) ∙ ap broke (sym c.in-Err-read-parts.ensures);
+      bytes_are = e ∙ whole_part bytes;
+      first = sym (link_whole bytes 0 (length bytes) s.0 (drop n bytes) 32 s.1 (omega arith) e) ∙ ap broke (sym c.in-Err-read-parts.ensures);
     }
 
 pub returns-in-Ok : goal.returns-in-Ok

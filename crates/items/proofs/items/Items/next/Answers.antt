@@ -1,14 +1,14 @@
 use Rattle.std.proofs.Common.{◌≡◌, ℕ, List, [], Ok, Err, Result, sym, refl, ap, ◌∙◌, arith}
 use Rattle.der.specs.declared.fault.Fault.{Fault}
 use Rattle.der.specs.declared.span.Span.{Span}
-use Rattle.der.specs.Head.{headerOf}
-use Rattle.der.specs.Spans.{part, elementOf, spanned}
+use Rattle.der.specs.Head.{header_of}
+use Rattle.der.specs.Spans.{part, element_of, spanned}
 use Rattle.items.proofs.items.Items.next.Goals as goal
 
 -- an element is none where no byte is left
-none_read : (file : List ℕ) (at end : ℕ) (s : Span) → elementOf file at end ≡ Ok s → part file at end ≡ [] → ⊥
+none_read : (file : List ℕ) (at end : ℕ) (s : Span) → element_of file at end ≡ Ok s → part file at end ≡ [] → ⊥
 none_read file at end s e z =
-    let q : ◌≡◌ {A = Result Span Fault} (spanned at (headerOf [])) (Ok s) = sym (ap (λ (x : List ℕ). spanned at (headerOf x)) z) ∙ e in
+    let q : ◌≡◌ {A = Result Span Fault} (spanned at (header_of [])) (Ok s) = sym (ap (λ (x : List ℕ). spanned at (header_of x)) z) ∙ e in
     let n : ◌≡◌ {A = ℕ} 0 1 = cc in omega arith
 
 pub returns-in-Ok : goal.returns-in-Ok

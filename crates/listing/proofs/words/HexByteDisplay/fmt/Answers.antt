@@ -1,8 +1,8 @@
 use Rattle.std.proofs.Common.{arith, rules}
 use Rattle.std.proofs.Output.{has_written_of_eq}
-use Rattle.listing.proofs.Texts.{hex-text}
+use Rattle.listing.proofs.Texts.{hex_text_lem}
 use Rattle.listing.proofs.words.HexByteDisplay.fmt.Goals as goal
 
 pub returns-clause-writes : goal.returns-clause-writes
 returns-clause-writes g c plain ok =
-    has_written_of_eq _ _ _ _ _ (hex-text c.args.self.now.0 _ _ (search rules) c.digit-of-high.ensures c.digit-of-low.ensures) (c.write.ensures.writes plain ok)
+    has_written_of_eq _ _ _ _ _ (hex_text_lem c.args.self.now.0 _ _ (search rules) c.digit-of-high.ensures c.digit-of-low.ensures) (c.write.ensures.writes plain ok)

@@ -3,8 +3,8 @@ use Rattle.std.proofs.lemmas.Nat.{mul-le}
 use Rattle.std.proofs.lemmas.List.{length-map}
 use Rattle.der.specs.Trees.{encode}
 use Rattle.index.proofs.Areas.{put_whole}
-use Rattle.matching.specs.Lists.{parts, digestsBytes}
-use Rattle.matching.proofs.Joining.{parts-joined}
+use Rattle.matching.specs.Lists.{parts, digests_bytes}
+use Rattle.matching.proofs.Joining.{parts_joined}
 use Rattle.matching.proofs.digests.Digests.of.Goals as goal
 
 pub put-digests-requires : goal.put-digests-requires
@@ -19,4 +19,4 @@ returns g c = λ ts s.
     ap (λ (n : ℕ). parts n c.width.result c.put-digests.new.area) (s.count ∙ sym (length-map ts encode))
     ∙ ap (λ (n : ℕ). parts (length (map encode ts)) n c.put-digests.new.area) c.width.ensures
     ∙ ap (parts (length (map encode ts)) g.G.Digest.size) put.front
-    ∙ parts-joined g.G.Digest.value g.G.Digest.size (λ xs. (g.met.G.Digest.sized xs).0) (map encode ts) _
+    ∙ parts_joined g.G.Digest.value g.G.Digest.size (λ xs. (g.met.G.Digest.sized xs).0) (map encode ts) _

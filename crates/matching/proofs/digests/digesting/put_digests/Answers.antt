@@ -4,20 +4,20 @@ use Rattle.der.specs.Trees.{encode}
 use Rattle.model.specs.Parts.{row}
 use Rattle.digest.specs.Took.{most}
 use Rattle.index.specs.Puts.{Put}
-use Rattle.index.proofs.Areas.{put-none}
-use Rattle.index.proofs.Entering.{same-part, none_done, has-next, all_done, next-valid, next-bytes, next-done, few_bytes, more_room}
-use Rattle.matching.proofs.Joining.{digested-more}
+use Rattle.index.proofs.Areas.{put_none}
+use Rattle.index.proofs.Entering.{same_part, none_done, has_next, all_done, next_valid, next_bytes, next_done, few_bytes, more_room}
+use Rattle.matching.proofs.Joining.{digested_more}
 use Rattle.matching.proofs.digests.digesting.put_digests.Goals as goal
 
 pub loop-init : goal.loop-init
-loop-init g c = (refl, refl, omega arith, (λ ts s. none_done _ _ _ _ _ _ (record { valid = s.valid; bytes = s.bytes }) (put-none _ _)))
+loop-init g c = (refl, refl, omega arith, (λ ts s. none_done _ _ _ _ _ _ (record { valid = s.valid; bytes = s.bytes }) (put_none _ _)))
 
 pub returns-in-default : goal.returns-in-default
 returns-in-default g c = λ ts s.
     let inv = c.loop.invariant in
     let h = inv.3 ts s in
-    let n = has-next _ _ _ _ _ _ _ h (omega (arith, s.count, c.loop-test.true)) in
-    absurd (c.in-default.ensures.trees n.first (row n.others) s.levels (next-valid _ _ _ _ _ h.left n) (same-part _ _ _ _ _ inv.0 inv.1 ∙ next-bytes _ _ _ _ _ h.left n))
+    let n = has_next _ _ _ _ _ _ _ h (omega (arith, s.count, c.loop-test.true)) in
+    absurd (c.in-default.ensures.trees n.first (row n.others) s.levels (next_valid _ _ _ _ _ h.left n) (same_part _ _ _ _ _ inv.0 inv.1 ∙ next_bytes _ _ _ _ _ h.left n))
 
 pub put-digest-stop-requires : goal.put-digest-stop-requires
 put-digest-stop-requires g c =
@@ -34,15 +34,15 @@ loop-preserved g c =
       omega (arith, inv.2, put.ends, add-mul c.loop.counter 1 g.G.Digest.size),
       (λ ts s.
           let h = inv.3 ts s in
-          let n = has-next _ _ _ _ _ _ _ h (omega (arith, s.count, c.loop-test.true)) in
-          let first = c.in-Ok.ensures.trees n.first (row n.others) s.levels (next-valid _ _ _ _ _ h.left n) (same-part _ _ _ _ _ inv.0 inv.1 ∙ next-bytes _ _ _ _ _ h.left n) in
+          let n = has_next _ _ _ _ _ _ _ h (omega (arith, s.count, c.loop-test.true)) in
+          let first = c.in-Ok.ensures.trees n.first (row n.others) s.levels (next_valid _ _ _ _ _ h.left n) (same_part _ _ _ _ _ inv.0 inv.1 ∙ next_bytes _ _ _ _ _ h.left n) in
           let whole : c.whole.result.now ≡ encode n.first =
           c.whole.ensures ∙ ap (λ (x : List ℕ). part x c.in-Ok.element.span.start c.in-Ok.element.span.end) c.in-Ok.ensures.reads.0 ∙ first.whole in
-          let few : length c.whole.result.now ≤ most = subst (λ (x : List ℕ). length x ≤ most) (sym whole) (few_bytes n.first s.levels (next-valid _ _ _ _ _ h.left n).0) in
+          let few : length c.whole.result.now ≤ most = subst (λ (x : List ℕ). length x ≤ most) (sym whole) (few_bytes n.first s.levels (next_valid _ _ _ _ _ h.left n).0) in
           let digest : Put c.loop.area c.put-digest-stop.new.area c.loop.stop (g.G.Digest.value (encode n.first)) c.put-digest-stop.result =
           subst (λ (x : List ℕ). Put c.loop.area c.put-digest-stop.new.area c.loop.stop (g.G.Digest.value x) c.put-digest-stop.result) whole (put.digest few) in
-          next-done _ _ _ _ _ _ _ h n _ c.next.new.self.at (same-part _ _ _ _ _ (sym inv.0) (sym inv.1) ∙ first.rest)
-          (digested-more g.G.Digest.value _ _ _ _ _ h.done n.first h.held digest)),
+          next_done _ _ _ _ _ _ _ h n _ c.next.new.self.at (same_part _ _ _ _ _ (sym inv.0) (sym inv.1) ∙ first.rest)
+          (digested_more g.G.Digest.value _ _ _ _ _ h.done n.first h.held digest)),
     )
 
 pub returns : goal.returns

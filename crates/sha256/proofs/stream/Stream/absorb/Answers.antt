@@ -4,7 +4,7 @@ use Rattle.sha256.specs.declared.stream.Stream.{Stream}
 use Rattle.sha256.specs.declared.words.Words.{Words}
 use Rattle.sha256.specs.Sha.{H}
 use Rattle.sha256.specs.Streams.{Holds, pushed}
-use Rattle.sha256.proofs.Holding.{holds-blocks, holds_pushed, count-pushed}
+use Rattle.sha256.proofs.Holding.{holds_blocks, holds_pushed, count_pushed}
 use Rattle.sha256.proofs.stream.Stream.absorb.Goals as goal
 
 -- the whole blocks of what is left, up to `end`
@@ -17,7 +17,7 @@ module _ (s : Stream) (bytes xs : List ℕ) (i end : ℕ) (w : Words) where
       let next : (xs ++ take i bytes) ++ blocks ≡ xs ++ take end bytes =
       append_assoc xs (take i bytes) blocks ∙ ap (λ z. xs ++ z) (sym (take-add i (end - i) bytes) ∙ ap (λ k. take k bytes) after) in
       subst (Holds (record { words = w; buffer = s.buffer; count = s.count + (end - i) })) next
-      (holds-blocks s (xs ++ take i bytes) blocks w (end - i) even full many is h)
+      (holds_blocks s (xs ++ take i bytes) blocks w (end - i) even full many is h)
 
 pub loop-i-preserved-then-bytes-i-ge64 : goal.loop-i-preserved-then-bytes-i-ge64
 loop-i-preserved-then-bytes-i-ge64 c =
@@ -41,7 +41,7 @@ loop-i-preserved c =
     let bytes = c.args.bytes.now in
     let b = get_or bytes i 0 in
     let within : i < length bytes = c.loop-i-test.true in
-    let n = ap (λ t. t.count) c.push.ensures ∙ count-pushed s b in (
+    let n = ap (λ t. t.count) c.push.ensures ∙ count_pushed s b in (
       omega arith,
       omega (arith, n, c.loop-i.invariant.1),
       λ xs h.

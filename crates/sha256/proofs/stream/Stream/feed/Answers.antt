@@ -1,12 +1,12 @@
 use Rattle.std.proofs.Common.{◌≡◌, ◌+◌, length, get_or, take, sym, refl, ap, ◌∙◌, subst, arith, length-take, take_all}
 use Rattle.std.proofs.lemmas.List.Sums.{fold_more}
 use Rattle.sha256.specs.Streams.{pushed, fed}
-use Rattle.sha256.proofs.Holding.{count-fed}
+use Rattle.sha256.proofs.Holding.{count_fed}
 use Rattle.sha256.proofs.stream.Stream.feed.Goals as goal
 
 pub push-requires : goal.push-requires
 push-requires c =
-    let n = ap (λ s. s.count) c.loop-b.invariant ∙ count-fed (take c.loop-b.b-index c.args.bytes.now) c.args.self.now in
+    let n = ap (λ s. s.count) c.loop-b.invariant ∙ count_fed (take c.loop-b.b-index c.args.bytes.now) c.args.self.now in
     let m = length-take c.loop-b.b-index c.args.bytes.now in
     omega (arith, n, m)
 
