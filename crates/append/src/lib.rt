@@ -4,6 +4,7 @@
 //! an absent field is made in its place. `measure_certificates`, `measure_revocations` and `measure_attributes` answer
 //! the new length, or the refusal, with nothing written.
 //! The file with more elements is defined in `specs/Appended.antt`, what stays true of it in `specs/Laws.antt`.
+#![tactic(auto)]
 
 mod appending;
 mod laws;

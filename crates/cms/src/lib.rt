@@ -3,6 +3,7 @@
 //! `read_message` reads a message as its settings want it; `read_attribute` and `read_signer` read one entry
 //! of the lists that it finds. What a message is made of is defined in `specs/Grammar.antt`, and where
 //! its parts lie in `specs/Places.antt`, both on trees of elements; how its bytes are read, in `specs/Records.antt`.
+#![tactic(auto)]
 
 mod attributes;
 mod contents;

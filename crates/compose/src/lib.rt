@@ -3,6 +3,7 @@
 //! `leads_of` finds what a stamp takes over from a token, `headers_for` makes every header anew for the index in it,
 //! exact before anything is written, and `pieces_of` lists the bytes of the stamp in their order.
 //! What a composed stamp is stands in `specs/Composed.antt`.
+#![tactic(auto)]
 
 mod frame;
 mod framing;

@@ -2,6 +2,7 @@
 //!
 //! `content_of` finds the content of a file that is read. What the content of a file is as bytes is defined in
 //! `specs/Contents.antt`, what segments joined are in `specs/Segments.antt`.
+#![tactic(auto)]
 
 mod contents;
 mod finding;

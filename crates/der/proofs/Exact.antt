@@ -1,14 +1,13 @@
 -- A header is read exactly where bytes begin with it, and bytes always are elements or have a fault.
-use Rattle.std.proofs.Common.{◌≡◌, ℕ, suc, ◌+◌, ◌≤◌, ◌⊎◌, List, ◌∷◌, ◌++◌, length, take, drop, Some, None, Ok, Err, Option, Result, sym, refl, ap, ◌∙◌, inl, inr, arith}
+use Rattle.std.proofs.Common.{◌≡◌, ℕ, suc, ◌+◌, ◌⊎◌, List, ◌∷◌, ◌++◌, length, drop, Some, None, Ok, Option, sym, ap, ◌∙◌, inl, inr, arith}
 use Rattle.std.proofs.lemmas.List.{append_assoc, length-append, take-append-drop, length-take-le}
-use Rattle.der.specs.declared.cause.Cause.{Cause}
 use Rattle.der.specs.declared.fault.Fault.{Fault}
 use Rattle.der.specs.declared.header.Header.{Header}
 use Rattle.der.specs.Computed.{fault_in, fault_at, size_at}
 use Rattle.der.specs.Faults.{contents, InElement, InForest}
 use Rattle.der.specs.Bytes.{Bytes}
 use Rattle.der.specs.Head.{header_of}
-use Rattle.der.specs.Headers.{Begins, header_size_of}
+use Rattle.der.specs.Headers.{Begins}
 use Rattle.der.specs.Trees.{Forms, Starts, framed, header_bytes, length_bytes}
 use Rattle.der.proofs.Decided.{Decides, DecidesAt, decides, decides_at}
 use Rattle.der.proofs.Frames.{Framed}

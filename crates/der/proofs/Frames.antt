@@ -1,12 +1,11 @@
 -- A header that is read is the shortest one of its contents.
-use Rattle.std.proofs.Common.{◌≡◌, ℕ, zero, suc, ◌+◌, ◌-◌, ◌*◌, ◌/◌, ◌%◌, ◌<◌, ◌≤◌, Bool, true, false, cond, eqb, ltb, leb, List, [], ◌∷◌, ◌++◌, length, get_or, take, drop, IfOk, Ok, Err, Result, sym, refl, ap, ◌∙◌, subst, suc-add, zero-add, arith, lit≤}
+use Rattle.std.proofs.Common.{◌≡◌, ℕ, suc, ◌+◌, ◌*◌, ◌/◌, ◌%◌, ◌<◌, ◌≤◌, eqb, ltb, leb, List, [], ◌∷◌, ◌++◌, length, take, drop, IfOk, Err, Result, sym, refl, ap, ◌∙◌, subst, suc-add, zero-add, arith, lit≤}
 use lib.Bits.{bit_and}
-use Rattle.std.proofs.lemmas.Bool.Decides.{nat_tests}
 use Rattle.std.proofs.lemmas.List.{length-take-le, drop_at, length-append}
 use Rattle.std.proofs.lemmas.Bool.{cond_both, leb-true, ltb-true, ltb-false, eqb-true, eqb-false, cond-true, cond-false, lt-ltb, le-ltb}
 use Rattle.der.specs.declared.header.Header.{Header}
 use Rattle.der.specs.declared.cause.Cause.{Cause}
-use Rattle.der.specs.declared.cause.Cause.TheVariants.{Missing, HighTag, Indefinite, HugeLength, LongLength, TooDeep}
+use Rattle.der.specs.declared.cause.Cause.TheVariants.{Missing, HighTag, LongLength}
 use Rattle.der.specs.Bytes.{Bytes}
 use Rattle.der.specs.Head.{header_of, length_of, one_byte, two_bytes, fits}
 use Rattle.der.specs.Trees.{length_bytes, framed}

@@ -1,13 +1,12 @@
 -- Parts of bytes: where they end, and what a header at their front says of the trees in them.
-use Rattle.std.proofs.Common.{◌≡◌, ℕ, suc, ◌+◌, ◌-◌, ◌<◌, ◌≤◌, min, List, [], ◌∷◌, ◌++◌, length, get_or, take, drop, Ok, Err, Result, sym, refl, ap, ◌∙◌, subst, ⊎_elim, arith}
-use Rattle.std.proofs.lemmas.List.{length-take, length-take-le, length-drop, take_all, take_at, drop_at, drop_all, drop-drop, take-take, drop-take, length-append}
+use Rattle.std.proofs.Common.{◌≡◌, ℕ, suc, ◌+◌, ◌-◌, ◌<◌, ◌≤◌, min, List, [], ◌++◌, length, take, drop, Ok, Err, Result, sym, refl, ap, ◌∙◌, ⊎_elim, arith}
+use Rattle.std.proofs.lemmas.List.{length-take, length-drop, take_all, take_at, drop_at, drop_all, drop-drop, take-take, drop-take, length-append}
 use Rattle.std.proofs.lemmas.Bool.{cases_lt}
 use Rattle.der.specs.declared.cause.Cause.{Cause}
 use Rattle.der.specs.declared.header.Header.{Header}
 use Rattle.der.specs.Bytes.{Bytes}
 use Rattle.der.specs.Head.{header_of}
 use Rattle.der.specs.Trees.{Tree, leaf, node, Forest, more, Sound, Valid, Valids, length_bytes, framed, encode, encodes, tag_of, body_of}
-use Rattle.der.specs.Faults.{contents}
 use Rattle.der.specs.Spans.{part, span_at, spanned, Handed, FirstTree}
 use Rattle.der.proofs.Decided.{bytes_take, bytes_drop}
 use Rattle.der.proofs.Heads.{header_within}

@@ -1,14 +1,13 @@
 -- A tree is found again from its bytes, and bytes have a tree or one first fault, and not both.
-use Rattle.std.proofs.Common.{◌≡◌, ℕ, zero, suc, ◌+◌, ◌-◌, ◌*◌, ◌/◌, ◌%◌, ◌<◌, ◌≤◌, Bool, true, false, cond, eqb, ltb, leb, ◌⊎◌, List, [], ◌∷◌, ◌++◌, length, get_or, take, drop, Ok, Err, Result, sym, refl, ap, ◌∙◌, subst, inl, inr, arith, lit≤}
+use Rattle.std.proofs.Common.{◌≡◌, ℕ, suc, ◌+◌, ◌-◌, ◌*◌, ◌/◌, ◌%◌, ◌<◌, ◌≤◌, ltb, leb, List, [], ◌∷◌, ◌++◌, length, take, drop, Ok, Err, Result, sym, refl, ap, ◌∙◌, subst, arith}
 use lib.Bits.{bit_and}
 use Rattle.std.proofs.lemmas.Bool.Decides.{nat_tests}
 use Rattle.std.proofs.lemmas.List.{take_at, drop_at, length-append, append_assoc, append_cancel_left, take-append-drop, length-drop}
-use Rattle.std.proofs.lemmas.Bool.{cond_both, leb-true, ltb-true, ltb-false, eqb-true, eqb-false, cond-true, cond-false, lt-ltb, le-ltb, le-leb, ne_eqb}
+use Rattle.std.proofs.lemmas.Bool.{cond_both, cond-true, le-leb}
 use Rattle.der.specs.declared.header.Header.{Header}
 use Rattle.der.specs.declared.fault.Fault.{Fault}
 use Rattle.der.specs.declared.cause.Cause.{Cause}
-use Rattle.der.specs.declared.cause.Cause.TheVariants.{Missing, HighTag, Indefinite, HugeLength, LongLength, TooDeep}
-use Rattle.der.specs.Head.{header_of, length_of, one_byte, two_bytes, fits}
+use Rattle.der.specs.Head.{header_of, fits}
 use Rattle.der.specs.Trees.{Tree, leaf, node, Forest, none, more, Sound, Constructed, Starts, Forms, Valid, Valids, framed, encode, encodes, length_bytes}
 use Rattle.der.specs.Faults.{contents, InElement, InForest, deep, head, inside, first, later}
 

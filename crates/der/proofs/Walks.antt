@@ -1,16 +1,15 @@
 -- The steps of the walk.
-use Rattle.std.proofs.Common.{◌≡◌, ℕ, zero, suc, ◌+◌, ◌-◌, ◌*◌, ◌<◌, ◌≤◌, Bool, true, false, cond, eqb, List, [], ◌∷◌, ◌++◌, length, get_or, take, drop, Ok, Err, Result, sym, refl, ap, ◌∙◌, subst, add_assoc, arith}
+use Rattle.std.proofs.Common.{◌≡◌, ℕ, ◌+◌, ◌-◌, ◌<◌, ◌≤◌, Bool, true, false, eqb, List, ◌++◌, length, take, drop, Ok, sym, refl, ap, ◌∙◌, subst, add_assoc, arith}
 use lib.Bits.{bit_and}
 use Rattle.std.proofs.lemmas.List.{length-take-le, drop-drop, take-append-drop, length-drop, take_rest, drop_all}
 use Rattle.std.proofs.lemmas.Result.{MatchResult-at_ok}
 use Rattle.std.proofs.lemmas.Bool.{cond-true, cond-false, eq-eqb, eqb-true}
 use Rattle.der.specs.declared.header.Header.{Header}
 use Rattle.der.specs.declared.fault.Fault.{Fault}
-use Rattle.der.specs.declared.cause.Cause.{Cause}
 use Rattle.der.specs.Bytes.{Bytes}
 use Rattle.der.specs.Head.{header_of}
-use Rattle.der.specs.Trees.{Tree, leaf, node, Forest, none, more, Sound, constructed, Constructed, Starts, Forms, Valid, framed, encode, encodes}
-use Rattle.der.specs.Faults.{contents, InElement, InForest, deep, head, inside, first, later}
+use Rattle.der.specs.Trees.{leaf, node, none, more, constructed, Constructed, Starts, Forms, framed, encodes}
+use Rattle.der.specs.Faults.{contents, InElement, InForest, inside, first, later}
 use Rattle.der.proofs.Frames.{Framed, all_framed}
 
 pub framed_at : (bs : List ℕ) (h : Header) → Bytes bs → header_of bs ≡ Ok h → Framed bs h

@@ -2,7 +2,7 @@
 use Rattle.std.specs.Prelude.{ℕ, ◌+◌, ◌*◌, cond, List, [], ◌∷◌, length, Ok, Err, Result, ◌==◌, bit_and, nat_le, nat_lt}
 use Rattle.der.specs.declared.header.Header.{Header}
 use Rattle.der.specs.declared.cause.Cause.{Cause}
-use Rattle.der.specs.declared.cause.Cause.TheVariants.{Missing, HighTag, Indefinite, HugeLength, LongLength, TooDeep}
+use Rattle.der.specs.declared.cause.Cause.TheVariants.{Missing, HighTag, Indefinite, HugeLength, LongLength}
 
 -- `size` bytes of contents after a header of `head` bytes, `rest` being all that the enclosing end leaves
 abbrev pub fits : ℕ → ℕ → ℕ → List ℕ → Result Header Cause

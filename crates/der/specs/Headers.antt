@@ -1,7 +1,7 @@
 -- What a header can say, and when bytes begin with it.
 use Rattle.std.specs.Prelude.{◌≡◌, ℕ, ◌≤◌, List, ◌++◌, length}
 use Rattle.der.specs.declared.header.Header.{Header}
-use Rattle.der.specs.Trees.{OneByteTag, length_bytes, header_bytes}
+use Rattle.der.specs.Trees.{OneByteTag, header_bytes}
 
 -- how many bytes a header has whose contents have `size` bytes; its tag has one
 abbrev pub header_size_of : ℕ → ℕ

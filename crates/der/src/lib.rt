@@ -3,6 +3,7 @@
 //! `read_header` takes one header apart, `walk` and its kin judge whole bytes,
 //! a `Reader` hands out elements one by one, and `HeaderBytes` writes a header.
 //! What bytes mean is defined in `specs/Trees.antt`, what breaks them in `specs/Faults.antt`.
+#![tactic(auto)]
 
 mod broken;
 mod cause;

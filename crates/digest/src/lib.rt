@@ -2,6 +2,8 @@
 //!
 //! A digest implements `interface::Digest`, a content source `source::Source`. `digesting` works on any of them, and
 //! `plain` is the source over bytes that lie in one piece.
+#![tactic(auto)]
+
 pub mod digesting;
 pub mod interface;
 pub mod making;

@@ -1,5 +1,7 @@
 //! Digests standard input by SHA-256 and by SHA3-256, and prints a line for each as `sha256sum` does.
 //! Input of more than 16,777,216 bytes gives the line `refused 16`.
+#![tactic(auto)]
+
 ghost use Rattle.std.specs.Prelude.{◌≡◌, ℕ, List, ◌++◌, IfOk, codes};
 ghost use Rattle.digest.specs.Took.{Took};
 ghost use Rattle.digest_line.specs.Hex.{hex_of};

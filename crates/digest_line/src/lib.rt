@@ -1,2 +1,4 @@
 //! Digests as lines of text.
+#![tactic(auto)]
+
 pub mod line;

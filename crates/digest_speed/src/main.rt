@@ -1,5 +1,7 @@
 //! Digests standard input as often as the first argument says, once without one, and prints the digest's line.
 //! The second argument `sha3-256` asks for SHA3-256 in place of SHA-256. For measuring: see docs/BENCHMARKS.md.
+#![tactic(auto)]
+
 use digest::digesting::digest_bytes;
 use digest::interface::Digest;
 use digest_line::line::hex_line;

@@ -1,5 +1,7 @@
 //! Digests published and made-up messages, each given in blocks of several sizes, and prints a line for each.
 //! What must be printed was made by another program: tests/make_digest_vectors.
+#![tactic(auto)]
+
 ghost use Rattle.std.specs.Prelude.{◌<◌};
 
 use digest::interface::Digest;

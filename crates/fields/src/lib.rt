@@ -2,6 +2,7 @@
 //!
 //! How bytes are read is defined in `specs/Reads.antt`. What is meant is a rule on trees, in `specs/Rules.antt`:
 //! the place of the first field that is missing, wrong or surplus. `proofs/Links.antt` joins the two, way by way.
+#![tactic(auto)]
 
 mod elements;
 mod entries;

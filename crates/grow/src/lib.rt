@@ -4,6 +4,7 @@
 //! `insert_field` makes a new element between two others; the headers of all elements around them follow.
 //! `measure_append` and `measure_field` answer the new length, or the refusal, with nothing written.
 //! Contents inside elements are defined in `specs/Frames.antt`, what growing does in `specs/Changes.antt`.
+#![tactic(auto)]
 
 mod appending;
 mod full;

@@ -1,4 +1,6 @@
 //! Bytes read from hexadecimal digits.
+#![tactic(auto)]
+
 mod laws;
 mod reading;
 

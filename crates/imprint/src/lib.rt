@@ -3,6 +3,7 @@
 //! `content_digest` digests the content that a call reads; which content that is, stands in `specs/Contents.antt`.
 //! `input_of` finds the four pieces of an imprint input, which `write_input` writes and `digest_input` digests; `agrees`
 //! says whether an imprint is that digest.
+#![tactic(auto)]
 
 mod agreeing;
 mod contents;

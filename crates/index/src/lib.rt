@@ -4,6 +4,7 @@
 //! keeps the limits. What an index is made of is defined in `specs/Grammar.antt`, and where its parts lie in
 //! `specs/Places.antt`, both on trees of elements; how its bytes are read, in `specs/Records.antt`.
 //! `write_index` writes the index of the elements that stand in three lists, and `index_length` tells its length before.
+#![tactic(auto)]
 
 mod algorithms;
 mod contents;

@@ -1,4 +1,5 @@
 //! The elements of a file's lists, handed out one by one as parts of its bytes.
+#![tactic(auto)]
 
 mod handing;
 mod item;

@@ -2,6 +2,7 @@
 //!
 //! `first_too_many` finds the first element too many of a file, `too_many` that of elements back to back.
 //! What an element too many is, is defined in `specs/Limits.antt` of the rules.
+#![tactic(auto)]
 
 mod counted;
 mod laws;

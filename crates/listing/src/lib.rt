@@ -1,4 +1,6 @@
 //! Outlines of files: the elements in reading order, or why the file is refused.
+#![tactic(auto)]
+
 mod elements;
 mod laws;
 mod line;

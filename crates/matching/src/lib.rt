@@ -3,6 +3,7 @@
 //!
 //! `first_unmatched` finds the first entry without an element, as defined in `specs/Unmatched.antt`; `fill_rows` lists the
 //! elements with their sides, as defined in `specs/Rows.antt`. Each element is digested once.
+#![tactic(auto)]
 
 mod digests;
 mod finding;

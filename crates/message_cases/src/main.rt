@@ -1,6 +1,8 @@
 //! Runs cases: each line of standard input has a name, a file and the line that `plan_form` must print of it, with
 //! spaces between. A file is hexadecimal digits, and may end with `+` and how many zero bytes follow. What is expected
 //! was made by another program: tests/make_cases.py.
+#![tactic(auto)]
+
 use hex::read_hex;
 use plan_line::tell_form;
 use std::alloc::{AllocError, Global};

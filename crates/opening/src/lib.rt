@@ -1,5 +1,6 @@
 //! Files that are opened: accepted with where their parts lie, or refused for exactly one reason; and `read`,
 //! which tells a signer's form.
+#![tactic(auto)]
 
 mod answers;
 mod gate;

@@ -1,4 +1,6 @@
 //! Prints the outline of the file on standard input: a line for each element, or why it is refused.
+#![tactic(auto)]
+
 use listing::tell_outline;
 use std::io;
 use std::io::Read;

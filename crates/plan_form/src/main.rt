@@ -1,4 +1,6 @@
 //! Prints the form of the first signer of the file on standard input, or why the file is refused.
+#![tactic(auto)]
+
 use plan_line::tell_form;
 use std::io;
 use std::io::Read;

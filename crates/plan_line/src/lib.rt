@@ -1,4 +1,6 @@
 //! The line that tells a file's form, or why it is refused.
+#![tactic(auto)]
+
 mod line;
 mod told;
 

@@ -1,4 +1,5 @@
 //! Rules over a message that has its form: counts and their limits, attributes, and what form a signer has.
+#![tactic(auto)]
 
 mod attributes;
 mod forms;

@@ -1,4 +1,6 @@
 //! SHA-256 as FIPS 180-4 defines it: the type `state::Sha256`, a digest by `hash::Sha256Digest`.
+#![tactic(auto)]
+
 pub mod example;
 pub mod hash;
 mod rounds;

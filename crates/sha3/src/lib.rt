@@ -2,6 +2,8 @@
 //!
 //! `state::Sha3` is a digest (`hash::Sha3Digest`): it takes bytes in any pieces, and finishes with the value that `specs/Sha3.antt` defines.
 //! `laws` has what is proved of the definition itself.
+#![tactic(auto)]
+
 mod block;
 pub mod hash;
 pub mod lanes;

@@ -2,6 +2,7 @@
 //!
 //! All of it is said of the parts of a file, in `specs/`: `Indexes.antt`, `Tokens.antt`, `Stamps.antt`, `Covering.antt`,
 //! and `Later.antt`, which says when one file is as late a copy as another.
+#![tactic(auto)]
 
 mod laws;
 mod lists;

@@ -2,6 +2,7 @@
 //!
 //! `read_token` finds where the parts of a token lie. What a token is stands in the crate `stamp_model`; the
 //! grammar of what it tells in `specs/Grammar.antt`, and what is at fault with other bytes in `specs/Tokens.antt`.
+#![tactic(auto)]
 
 mod infos;
 mod laws;

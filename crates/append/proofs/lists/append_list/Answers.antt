@@ -10,8 +10,8 @@ append-requires c =
     let l = c.requires.list in
     record { within = c.requires.within.0; path = (frame l.1 c.args.tag l.2 ∷ l.0, l.3, l.4.field c.if-there.true) }
 
-pub insert-field-requires : goal.insert-field-requires
-insert-field-requires c =
+pub insert_field-requires : goal.insert_field-requires
+insert_field-requires c =
     let l = c.requires.list in
     record { within = c.requires.within.0; spot = (l.0, l.1, l.2, place_of l.4 c.if-there.false) }
 
@@ -20,5 +20,5 @@ returns-then-there c fs before after old l = c.append.ensures (frame before c.ar
 
 pub returns-else-there : goal.returns-else-there
 returns-else-there c fs before after old l =
-    subst (λ (x : List ℕ). Changed c.args.buffer.now c.insert-field.new.buffer c.insert-field.result x)
-    (none_old l c.if-there.false (flat_map (λ p. p.now) c.args.run.now)) (c.insert-field.ensures fs before after (place_of l c.if-there.false))
+    subst (λ (x : List ℕ). Changed c.args.buffer.now c.insert_field.new.buffer c.insert_field.result x)
+    (none_old l c.if-there.false (flat_map (λ p. p.now) c.args.run.now)) (c.insert_field.ensures fs before after (place_of l c.if-there.false))

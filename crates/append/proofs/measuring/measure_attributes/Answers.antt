@@ -3,11 +3,11 @@ use Rattle.append.proofs.Held.{held_fits}
 use Rattle.append.proofs.Filing.{attributes_held}
 use Rattle.append.proofs.measuring.measure_attributes.Goals as goal
 
-pub measure-list-requires : goal.measure-list-requires
-measure-list-requires c =
+pub measure_list-requires : goal.measure_list-requires
+measure_list-requires c =
     let (f, k, a, s) = c.requires.file in
-    let h = attributes_held f a k s (c.attributes-path-path.ensures f a.parts) c.is-some.ensures in
-    record { within = (c.requires.within, omega (arith, ap length (c.attributes-path-path.ensures f a.parts))); list = (h.fs, h.before, 0xa1, h.after, h.old, h.list) }
+    let h = attributes_held f a k s (c.attributes_path-path.ensures f a.parts) c.is_some.ensures in
+    record { within = (c.requires.within, omega (arith, ap length (c.attributes_path-path.ensures f a.parts))); list = (h.fs, h.before, 0xa1, h.after, h.old, h.list) }
 
 pub returns : goal.returns
-returns c f k new a s e = held_fits (attributes_held f a k s (c.attributes-path-path.ensures f a.parts) c.is-some.ensures) _ _ _ new e c.measure-list.ensures
+returns c f k new a s e = held_fits (attributes_held f a k s (c.attributes_path-path.ensures f a.parts) c.is_some.ensures) _ _ _ new e c.measure_list.ensures

@@ -3,11 +3,11 @@ use Rattle.append.proofs.Held.{held_fits}
 use Rattle.append.proofs.Filing.{certificates_held}
 use Rattle.append.proofs.measuring.measure_certificates.Goals as goal
 
-pub measure-list-requires : goal.measure-list-requires
-measure-list-requires c =
+pub measure_list-requires : goal.measure_list-requires
+measure_list-requires c =
     let (f, a) = c.requires.file in
-    let h = certificates_held f a (c.certificates-path-path.ensures f a.parts) c.is-some.ensures in
-    record { within = (c.requires.within, omega (arith, ap length (c.certificates-path-path.ensures f a.parts))); list = (h.fs, h.before, 0xa0, h.after, h.old, h.list) }
+    let h = certificates_held f a (c.certificates_path-path.ensures f a.parts) c.is_some.ensures in
+    record { within = (c.requires.within, omega (arith, ap length (c.certificates_path-path.ensures f a.parts))); list = (h.fs, h.before, 0xa0, h.after, h.old, h.list) }
 
 pub returns : goal.returns
-returns c f new a e = held_fits (certificates_held f a (c.certificates-path-path.ensures f a.parts) c.is-some.ensures) _ _ _ new e c.measure-list.ensures
+returns c f new a e = held_fits (certificates_held f a (c.certificates_path-path.ensures f a.parts) c.is_some.ensures) _ _ _ new e c.measure_list.ensures

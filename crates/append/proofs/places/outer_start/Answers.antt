@@ -8,6 +8,6 @@ use Rattle.append.proofs.places.outer_start.Goals as goal
 
 pub returns : goal.returns
 returns c f e =
-    ap (λ (x : ℕ). c.args.message.now.whole.start - x) c.header-size.ensures
+    ap (λ (x : ℕ). c.args.message.now.whole.start - x) c.header_size.ensures
     ∙ ap (λ (m : Message). m.whole.start - header_size_of (m.whole.end - m.whole.start)) e
     ∙ outer_is (outer_at f) (signed_data_tree f)

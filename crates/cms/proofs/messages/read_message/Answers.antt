@@ -7,7 +7,7 @@ use Rattle.cms.proofs.messages.read_message.Goals as goal
 
 pub returns : goal.returns
 returns c =
-    let read = c.read-parts.ensures in
+    let read = c.read_parts.ensures in
     let settings = c.args.settings in
     let bytes = c.args.reader.bytes.now in
     let at = c.args.reader.at in

@@ -8,4 +8,4 @@ returns-then-front-gt-MOST c =
     lead_long c.args.leads.front.now c.args.leads.six.now c.args.index.now h
 
 pub returns : goal.returns
-returns c = of_these c.args.leads.front.now c.args.leads.six.now c.args.index.now c.head-all.result c.head-all.ensures
+returns c = of_these c.args.leads.front.now c.args.leads.six.now c.args.index.now c.head_all.result c.head_all.ensures

@@ -10,8 +10,8 @@ turned c =
     let reads = c.in-Ok.ensures.reads in
     turn _ _ _ _ _ _ _ _ _ c.loop-segment.invariant.0 c.loop-segment.invariant.1 reads.1 reads.0 c.contents.ensures
 
-pub overflow-add-count : goal.overflow-add-count
-overflow-add-count c =
+pub overflow_add-count : goal.overflow_add-count
+overflow_add-count c =
     let t = turned c in
     record { fits = omega (arith, t.ahead, t.within, c.loop-segment.invariant.2, c.ranges.segments.0) }
 
@@ -30,5 +30,5 @@ pub returns : goal.returns
 returns c =
     let inv = c.loop-segment.invariant in
     let none : joined_in c.args.segments.bytes.now c.loop-segment.reader.at c.args.segments.end ≡ [] =
-    no_turn c.args.segments.bytes.now _ c.loop-segment.reader.at c.args.segments.end _ _ inv.0 inv.1 c.in-default.ensures.reads.read in
+    no_turn c.args.segments.bytes.now _ c.loop-segment.reader.at c.args.segments.end _ _ inv.0 inv.1 c.in_default.ensures.reads.read in
     omega (arith, inv.3, ap length none)

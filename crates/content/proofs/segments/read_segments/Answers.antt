@@ -16,18 +16,18 @@ turned c =
 pub loop-filled-init : goal.loop-filled-init
 loop-filled-init c = (refl, refl, omega arith, ([], refl, refl, read_none c.args.place c.args.block.now))
 
-pub returns-in-default : goal.returns-in-default
-returns-in-default c =
+pub returns-in_default : goal.returns-in_default
+returns-in_default c =
     let inv = c.loop-filled.invariant in
     let before = inv.3.0 in
     let none : joined_in c.args.segments.bytes.now c.loop-filled.reader.at c.args.segments.end ≡ [] =
-    no_turn c.args.segments.bytes.now _ c.loop-filled.reader.at c.args.segments.end _ _ inv.0 inv.1 c.in-default.ensures.reads.read in
+    no_turn c.args.segments.bytes.now _ c.loop-filled.reader.at c.args.segments.end _ _ inv.0 inv.1 c.in_default.ensures.reads.read in
     let all : joined_of c.args.segments ≡ before = inv.3.2 ∙ ap (λ (x : List ℕ). before ++ x) none ∙ append-nil before in
     let Reads : List ℕ → Type 0 = λ bytes. Read bytes c.args.place c.args.block.now c.loop-filled.block c.loop-filled.filled in
     subst Reads (sym all) inv.3.3
 
-pub overflow-add-passed : goal.overflow-add-passed
-overflow-add-passed c =
+pub overflow_add-passed : goal.overflow_add-passed
+overflow_add-passed c =
     let t = turned c in
     record { fits = omega (arith, t.ahead, t.within, c.loop-filled.invariant.2, c.ranges.segments.0) }
 
@@ -38,7 +38,7 @@ loop-filled-preserved c =
     let t = turned c in
     let before = inv.3.0 in
     let contents = c.contents-contents.result.now in
-    let from : c.saturating-sub.result ≡ c.args.place - length before = c.saturating-sub.ensures ∙ ap (λ (n : ℕ). c.args.place - n) (sym inv.3.1) in (
+    let from : c.saturating_sub.result ≡ c.args.place - length before = c.saturating_sub.ensures ∙ ap (λ (n : ℕ). c.args.place - n) (sym inv.3.1) in (
       stands.0 ∙ inv.0,
       stands.1 ∙ inv.1,
       omega (arith, t.ahead, inv.2),
@@ -46,7 +46,7 @@ loop-filled-preserved c =
         before ++ contents,
         length-append before contents ∙ ap (λ (n : ℕ). n + length contents) inv.3.1,
         inv.3.2 ∙ ap (λ (x : List ℕ). before ++ x) t.joined ∙ sym (append_assoc before contents _),
-        read_next before contents c.args.place c.saturating-sub.result c.args.block.now c.loop-filled.block c.copy-from-filled.new.block _ _ from inv.3.3 c.copy-from-filled.ensures,
+        read_next before contents c.args.place c.saturating_sub.result c.args.block.now c.loop-filled.block c.copy_from-filled.new.block _ _ from inv.3.3 c.copy_from-filled.ensures,
       ),
     )
 

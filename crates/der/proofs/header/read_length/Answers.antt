@@ -6,4 +6,4 @@ use Rattle.der.proofs.header.read_length.Goals as goal
 pub returns-in-130 : goal.returns-in-130
 returns-in-130 c =
     at_zero c.args.tag c.args.bytes.now (omega (arith, ltb-true, ltb-false)) (omega (arith, eqb-true)) (omega (arith, eqb-true))
-    (omega (arith, c.type-inv.bytes 2))
+    (omega (arith, c.type_inv.bytes 2))

@@ -4,9 +4,9 @@ use Rattle.der.proofs.laws.laws_hold.Goals as goal
 
 pub returns : goal.returns
 returns c = record {
-  header-exact = λ bs h t. (begins bs h t, begun bs h);
-  one-forest = same_forest;
-  one-front = same_tree;
+  header_exact = λ bs h t. (begins bs h t, begun bs h);
+  one_forest = same_forest;
+  one_front = same_tree;
   one_fault = one_fault;
   never_both = no_fault;
   always_one = always_one;

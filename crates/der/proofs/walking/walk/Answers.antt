@@ -3,4 +3,4 @@ use Rattle.der.proofs.Decided.{walked}
 use Rattle.der.proofs.walking.walk.Goals as goal
 
 pub returns : goal.returns
-returns c = walked c.args.levels c.args.bytes.now (λ i. omega (arith, c.type-inv.bytes i)) c.walk-elements.result c.walk-elements.ensures
+returns c = walked c.args.levels c.args.bytes.now (λ i. omega (arith, c.type_inv.bytes i)) c.walk_elements.result c.walk_elements.ensures

@@ -5,4 +5,4 @@ pub returns-in-Err : goal.returns-in-Err
 returns-in-Err c = one_fault_told c.args.levels c.args.bytes.now c.in-Err.fault c.in-Err.ensures.meaning
 
 pub returns-in-Ok : goal.returns-in-Ok
-returns-in-Ok c = one_by_end c.args.levels c.args.bytes.now c.in-Ok.end c.nothing-behind.result c.in-Ok.ensures.meaning c.nothing-behind.ensures
+returns-in-Ok c = one_by_end c.args.levels c.args.bytes.now c.in-Ok.end c.nothing_behind.result c.in-Ok.ensures.meaning c.nothing_behind.ensures

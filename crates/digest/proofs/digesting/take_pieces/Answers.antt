@@ -17,7 +17,7 @@ unfolding none
 loop-piece-preserved g c = λ xs is small.
     let i = c.loop-piece.piece-index in
     let pieces = c.args.pieces.now in
-    let took = took_ok _ _ _ _ _ (c.take.ensures _ (c.loop-piece.invariant xs is small).1) c.in-ok-take.was in
+    let took = took_ok _ _ _ _ _ (c.take.ensures _ (c.loop-piece.invariant xs is small).1) c.in_ok-take.was in
     let next = joined_next (λ p. p.now) pieces i none c.loop-piece-test.true in
     let more = joined_next_length (λ p. p.now) pieces i none c.loop-piece-test.true in
     let size = length-append xs (flat_map (λ p. p.now) (take i pieces)) in (
@@ -25,17 +25,17 @@ loop-piece-preserved g c = λ xs is small.
       subst (g.G.Digest.stands c.take.new.self) (append_assoc xs _ _ ∙ ap (λ z. xs ++ z) (sym next)) took.1,
     )
 
-pub returns-in-err-take : goal.returns-in-err-take
+pub returns-in_err-take : goal.returns-in_err-take
 unfolding none
-returns-in-err-take g c = λ xs is small.
+returns-in_err-take g c = λ xs is small.
     let i = c.loop-piece.piece-index in
     let pieces = c.args.pieces.now in
     let all = flat_map (λ p. p.now) pieces in
     let front = flat_map (λ p. p.now) (take i pieces) in
     let took = c.take.ensures _ (c.loop-piece.invariant xs is small).1 in
-    let failed = took_err _ _ _ _ _ took c.in-err-take.was in
-    let p = err_from_is_err_and c.from-residual.result c.from-residual.ensures.1 in
-    let answer : c.from-residual.result ≡ Err LongInput = p.1 ∙ ap Err p.2 ∙ sym c.in-err-take.was ∙ failed.1 in
+    let failed = took_err _ _ _ _ _ took c.in_err-take.was in
+    let p = err_from_is_err_and c.from_residual.result c.from_residual.ensures.1 in
+    let answer : c.from_residual.result ≡ Err LongInput = p.1 ∙ ap Err p.2 ∙ sym c.in_err-take.was ∙ failed.1 in
     let more = joined_next_length (λ p. p.now) pieces i none c.loop-piece-test.true in
     let within = joined_front (λ p. p.now) pieces (i + 1) in
     let size = length-append xs front in

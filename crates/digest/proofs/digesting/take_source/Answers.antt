@@ -10,30 +10,30 @@ pub loop-place-preserved : goal.loop-place-preserved
 loop-place-preserved g c =
     let all = g.S.Source.bytes c.args.source.now in
     let place = c.loop-place.place in
-    let n = c.read-at-count.result in
-    let many = c.read-at-count.ensures.many in
+    let n = c.read_at-count.result in
+    let many = c.read_at-count.ensures.many in
     let total = c.len-total.ensures in
     let part : length (take n (drop place all)) ≡ n = simp (length-take, length-drop) (omega arith) in
-    let got : take (n - 0) c.read-at-count.new.block ≡ take n (drop place all) =
-    ap (λ b. take (n - 0) b) c.read-at-count.ensures.front ∙ take_at _ _ (n - 0) (omega (arith, part)) in (
+    let got : take (n - 0) c.read_at-count.new.block ≡ take n (drop place all) =
+    ap (λ b. take (n - 0) b) c.read_at-count.ensures.front ∙ take_at _ _ (n - 0) (omega (arith, part)) in (
       omega arith,
       search rules,
       λ xs is few.
-          let took = took_ok _ _ _ _ _ (c.take.ensures _ (c.loop-place.invariant.2 xs is few)) c.in-ok-take.was in
-          let next : (xs ++ take place all) ++ take (n - 0) c.read-at-count.new.block ≡ xs ++ take (place + n) all =
+          let took = took_ok _ _ _ _ _ (c.take.ensures _ (c.loop-place.invariant.2 xs is few)) c.in_ok-take.was in
+          let next : (xs ++ take place all) ++ take (n - 0) c.read_at-count.new.block ≡ xs ++ take (place + n) all =
           ap (λ z. (xs ++ take place all) ++ z) got ∙ append_assoc xs _ _ ∙ ap (λ z. xs ++ z) (sym (take-add place n all)) in
           subst (g.G.Digest.stands c.take.new.self) next took.1,
     )
 
-pub returns-in-err-take : goal.returns-in-err-take
-returns-in-err-take g c = λ xs is small.
+pub returns-in_err-take : goal.returns-in_err-take
+returns-in_err-take g c = λ xs is small.
     let all = g.S.Source.bytes c.args.source.now in
     let few = g.S.Source.few c.args.source.now in
-    let many = c.read-at-count.ensures.many in
+    let many = c.read_at-count.ensures.many in
     let total = c.len-total.ensures in
-    let took = took_err _ _ _ _ _ (c.take.ensures _ (c.loop-place.invariant.2 xs is small)) c.in-err-take.was in
+    let took = took_err _ _ _ _ _ (c.take.ensures _ (c.loop-place.invariant.2 xs is small)) c.in_err-take.was in
     let before : length (xs ++ take c.loop-place.place all) ≤ length xs + c.loop-place.place = simp (length-append, length-take) (omega arith) in
-    let now' : length (take (c.read-at-count.result - 0) c.read-at-count.new.block) ≤ c.read-at-count.result = simp length-take (omega arith) in
+    let now' : length (take (c.read_at-count.result - 0) c.read_at-count.new.block) ≤ c.read_at-count.result = simp length-take (omega arith) in
     absurd (omega (arith, took.0))
 
 pub returns : goal.returns

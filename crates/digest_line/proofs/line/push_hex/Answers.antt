@@ -9,7 +9,7 @@ loop-b-preserved c =
     let bytes = c.args.bytes.now in
     let i = c.loop-b.b-index in
     let next = joined_next (λ b. digit_for (b / 16) ∷ digit_for (b % 16) ∷ []) bytes i 0 c.loop-b-test.true in
-    let added : vec_items c.extend-from-slice.new.self ≡ vec_items c.loop-b.text ++ (digit_for (get_or bytes i 0 / 16) ∷ digit_for (get_or bytes i 0 % 16) ∷ []) = search rules in
+    let added : vec_items c.extend_from_slice.new.self ≡ vec_items c.loop-b.text ++ (digit_for (get_or bytes i 0 / 16) ∷ digit_for (get_or bytes i 0 % 16) ∷ []) = search rules in
     added ∙ ap (λ z. z ++ (digit_for (get_or bytes i 0 / 16) ∷ digit_for (get_or bytes i 0 % 16) ∷ [])) c.loop-b.invariant ∙ append_assoc (vec_items c.args.text.now) (hex_of (take i bytes)) _ ∙ ap (λ z. vec_items c.args.text.now ++ z) (sym next)
 
 pub returns : goal.returns

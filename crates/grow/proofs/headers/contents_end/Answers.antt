@@ -12,23 +12,23 @@ first : (buffer path : List ℕ) (n : ℕ) (fs : List Frame) (body : List ℕ) �
     Turn (take n buffer) (drop 1 path) (get_or path 0 0) fs (length body) body
 first buffer path n fs body w s l e = turn_of (take n buffer) path 0 fs body (omega arith) (omega (arith, length-take-le n buffer w)) e
 
-pub header-at-header-requires : goal.header-at-header-requires
-header-at-header-requires c =
+pub header_at-header-requires : goal.header_at-header-requires
+header_at-header-requires c =
     let p = c.requires.path in
     let t = first c.args.buffer.now c.args.path.now c.args.n p.0 p.1 c.requires.within.0 c.requires.within.1 c.if-path-eq0.false p.2 in
     record { within = (omega (arith, length-take-le c.args.n c.args.buffer.now c.requires.within.0, t.ends), c.requires.within.0); header = ap is_ok t.header }
 
-pub overflow-add-result : goal.overflow-add-result
-overflow-add-result c =
+pub overflow_add-result : goal.overflow_add-result
+overflow_add-result c =
     let p = c.requires.path in
     let t = first c.args.buffer.now c.args.path.now c.args.n p.0 p.1 c.requires.within.0 c.requires.within.1 c.if-path-eq0.false p.2 in
-    omega (arith, length-take-le c.args.n c.args.buffer.now c.requires.within.0, (end_some _ _ _ p.0 p.1 c.header-at-header.result t c.header-at-header.ensures).1)
+    omega (arith, length-take-le c.args.n c.args.buffer.now c.requires.within.0, (end_some _ _ _ p.0 p.1 c.header_at-header.result t c.header_at-header.ensures).1)
 
-pub overflow-add-result-else-path-eq0 : goal.overflow-add-result-else-path-eq0
-overflow-add-result-else-path-eq0 c =
+pub overflow_add-result-else-path-eq0 : goal.overflow_add-result-else-path-eq0
+overflow_add-result-else-path-eq0 c =
     let p = c.requires.path in
     let t = first c.args.buffer.now c.args.path.now c.args.n p.0 p.1 c.requires.within.0 c.requires.within.1 c.if-path-eq0.false p.2 in
-    omega (arith, length-take-le c.args.n c.args.buffer.now c.requires.within.0, (end_some _ _ _ p.0 p.1 c.header-at-header.result t c.header-at-header.ensures).1)
+    omega (arith, length-take-le c.args.n c.args.buffer.now c.requires.within.0, (end_some _ _ _ p.0 p.1 c.header_at-header.result t c.header_at-header.ensures).1)
 
 pub returns-then-path-eq0 : goal.returns-then-path-eq0
 returns-then-path-eq0 c fs body e =
@@ -37,4 +37,4 @@ returns-then-path-eq0 c fs body e =
 pub returns-else-path-eq0 : goal.returns-else-path-eq0
 returns-else-path-eq0 c fs body e =
     let t = first c.args.buffer.now c.args.path.now c.args.n fs body c.requires.within.0 c.requires.within.1 c.if-path-eq0.false e in
-    (end_some _ _ _ fs body c.header-at-header.result t c.header-at-header.ensures).0
+    (end_some _ _ _ fs body c.header_at-header.result t c.header_at-header.ensures).0

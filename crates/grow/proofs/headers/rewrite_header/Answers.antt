@@ -6,10 +6,10 @@ use Rattle.grow.proofs.headers.rewrite_header.Goals as goal
 
 pub returns : goal.returns
 returns c = record {
-  length = omega (arith, c.header-size.ensures);
+  length = omega (arith, c.header_size.ensures);
   bytes =
-      filled c.args.buffer.now c.open-gap.new.buffer _ c.args.n c.args.at c.args.header.head (header_bytes c.args.header.tag c.args.size)
+      filled c.args.buffer.now c.open_gap.new.buffer _ c.args.n c.args.at c.args.header.head (header_bytes c.args.header.tag c.args.size)
       c.requires.within.0 c.requires.grows c.requires.within.1
-      (subst (λ (x : ℕ). Parted c.args.buffer.now c.open-gap.new.buffer c.args.n (c.args.at + c.args.header.head) (x - c.args.header.head)) c.header-size.ensures c.open-gap.ensures)
-      c.put-header.ensures;
+      (subst (λ (x : ℕ). Parted c.args.buffer.now c.open_gap.new.buffer c.args.n (c.args.at + c.args.header.head) (x - c.args.header.head)) c.header_size.ensures c.open_gap.ensures)
+      c.put_header.ensures;
 }

@@ -14,8 +14,8 @@ returns-then-n-gt-MOST c fs body e =
 pub loop-place-init : goal.loop-place-init
 loop-place-init c = (omega arith, λ fs body e. (fs, body, e, refl))
 
-pub header-at-header-requires : goal.header-at-header-requires
-header-at-header-requires c =
+pub header_at-header-requires : goal.header_at-header-requires
+header_at-header-requires c =
     let a = c.loop-place.invariant.1 c.requires.path.0 c.requires.path.1 c.requires.path.2 in
     let n = length-take-le c.args.n c.args.buffer.now c.requires.within in
     let s : length (take c.args.n c.args.buffer.now) ≤ 65535 = omega (arith, n) in
@@ -24,12 +24,12 @@ header-at-header-requires c =
       header = ahead_header _ _ c.loop-place.place-index _ _ c.loop-place-test.true s a;
     }
 
-pub overflow-add-size : goal.overflow-add-size
-overflow-add-size c =
+pub overflow_add-size : goal.overflow_add-size
+overflow_add-size c =
     let a = c.loop-place.invariant.1 c.requires.path.0 c.requires.path.1 c.requires.path.2 in
     let n = length-take-le c.args.n c.args.buffer.now c.requires.within in
     let s : length (take c.args.n c.args.buffer.now) ≤ 65535 = omega (arith, n) in
-    omega (arith, s, c.loop-place.invariant.0, ahead_size _ _ c.loop-place.place-index _ _ c.loop-place-test.true s a c.header-at-header.result c.header-at-header.ensures)
+    omega (arith, s, c.loop-place.invariant.0, ahead_size _ _ c.loop-place.place-index _ _ c.loop-place-test.true s a c.header_at-header.result c.header_at-header.ensures)
 
 pub returns-then-size-gt-MOST : goal.returns-then-size-gt-MOST
 returns-then-size-gt-MOST c fs body e =
@@ -37,27 +37,27 @@ returns-then-size-gt-MOST c fs body e =
     let n = length-take-le c.args.n c.args.buffer.now c.requires.within in
     let s : length (take c.args.n c.args.buffer.now) ≤ 65535 = omega (arith, n) in
     too_long _ (reach fs (length body + c.args.more))
-    (omega (arith, c.if-size-gt-MOST.true, ahead_most _ _ c.loop-place.place-index _ _ c.loop-place-test.true s a c.header-at-header.result c.header-at-header.ensures))
+    (omega (arith, c.if-size-gt-MOST.true, ahead_most _ _ c.loop-place.place-index _ _ c.loop-place-test.true s a c.header_at-header.result c.header_at-header.ensures))
 
-pub overflow-sub-grow : goal.overflow-sub-grow
-overflow-sub-grow c =
+pub overflow_sub-grow : goal.overflow_sub-grow
+overflow_sub-grow c =
     let a = c.loop-place.invariant.1 c.requires.path.0 c.requires.path.1 c.requires.path.2 in
     let n = length-take-le c.args.n c.args.buffer.now c.requires.within in
     let s : length (take c.args.n c.args.buffer.now) ≤ 65535 = omega (arith, n) in
-    omega (arith, c.header-size.ensures, ahead_grows _ _ c.loop-place.place-index _ _ c.loop-place-test.true s a c.header-at-header.result c.header-at-header.ensures)
+    omega (arith, c.header_size.ensures, ahead_grows _ _ c.loop-place.place-index _ _ c.loop-place-test.true s a c.header_at-header.result c.header_at-header.ensures)
 
 pub loop-place-preserved : goal.loop-place-preserved
 loop-place-preserved c =
     let n = length-take-le c.args.n c.args.buffer.now c.requires.within in
     let s : length (take c.args.n c.args.buffer.now) ≤ 65535 = omega (arith, n) in (
-      omega (arith, c.if-size-gt-MOST.false, c.header-size.ensures, header_most (c.header-at-header.result.size + c.loop-place.grow)),
+      omega (arith, c.if-size-gt-MOST.false, c.header_size.ensures, header_most (c.header_at-header.result.size + c.loop-place.grow)),
       λ fs body e.
-          rw c.header-size.ensures
-          (ahead_on _ _ c.loop-place.place-index _ _ c.loop-place-test.true s (c.loop-place.invariant.1 fs body e) c.header-at-header.result c.header-at-header.ensures),
+          rw c.header_size.ensures
+          (ahead_on _ _ c.loop-place.place-index _ _ c.loop-place-test.true s (c.loop-place.invariant.1 fs body e) c.header_at-header.result c.header_at-header.ensures),
     )
 
-pub overflow-add-sum : goal.overflow-add-sum
-overflow-add-sum c = omega (arith, c.loop-place.invariant.0)
+pub overflow_add-sum : goal.overflow_add-sum
+overflow_add-sum c = omega (arith, c.loop-place.invariant.0)
 
 pub returns-then-sum-gt-MOST : goal.returns-then-sum-gt-MOST
 returns-then-sum-gt-MOST c fs body e =

@@ -14,6 +14,6 @@ returns-then-more-gt-MOST c fs pre post new tag e m =
 
 pub returns : goal.returns
 returns c fs pre post new tag e m =
-    let size : length (framed tag new) ≡ c.header-size.result + c.args.more =
-    length_framed tag new ∙ ap (λ (x : ℕ). header_size_of x + x) m ∙ ap (λ (x : ℕ). x + c.args.more) (sym c.header-size.ensures) in
+    let size : length (framed tag new) ≡ c.header_size.result + c.args.more =
+    length_framed tag new ∙ ap (λ (x : ℕ). header_size_of x + x) m ∙ ap (λ (x : ℕ). x + c.args.more) (sym c.header_size.ensures) in
     c.measure.ensures fs (pre ++ post) e ∙ ap (λ (x : ℕ). fitting (length c.args.buffer.now) x) (sym (length_new fs pre (framed tag new) post _ size))

@@ -7,13 +7,13 @@ use Rattle.grow.proofs.putting.put_pieces.Goals as goal
 pub loop-piece-init : goal.loop-piece-init
 loop-piece-init c = (omega arith, overlay_none c.args.at c.args.buffer.now)
 
-pub put-bytes-requires : goal.put-bytes-requires
-put-bytes-requires c = record {
+pub put_bytes-requires : goal.put_bytes-requires
+put_bytes-requires c = record {
   room = omega (arith, c.loop-piece.invariant.0, next_most c.args.pieces.now c.loop-piece.piece-index c.loop-piece-test.true, c.requires.room, c.loop-piece.auto.buffer);
 }
 
-pub overflow-add-place : goal.overflow-add-place
-overflow-add-place c = omega (arith, c.loop-piece.invariant.0, next_most c.args.pieces.now c.loop-piece.piece-index c.loop-piece-test.true, c.requires.room)
+pub overflow_add-place : goal.overflow_add-place
+overflow_add-place c = omega (arith, c.loop-piece.invariant.0, next_most c.args.pieces.now c.loop-piece.piece-index c.loop-piece-test.true, c.requires.room)
 
 pub loop-piece-preserved : goal.loop-piece-preserved
 loop-piece-preserved c =
@@ -23,7 +23,7 @@ loop-piece-preserved c =
     let piece : List ℕ = (get_or pieces i no_piece).now in
     let inv = c.loop-piece.invariant in (
       omega (arith, inv.0, front_length pieces i c.loop-piece-test.true),
-      c.put-bytes.ensures
+      c.put_bytes.ensures
           ∙ ap (λ (x : ℕ). overlay x piece c.loop-piece.buffer) inv.0
           ∙ ap (overlay (c.args.at + length front) piece) inv.1
           ∙ overlay_more c.args.at front piece c.args.buffer.now (omega (arith, c.requires.room))

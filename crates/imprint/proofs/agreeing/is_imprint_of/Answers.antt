@@ -11,7 +11,7 @@ returns-in-Ok g c =
       fits = λ few.
           let wrote = (digested.fits few).fits g.met.G.Digest.small.1 in
           let width : c.width.result - 0 ≡ g.G.Digest.size = omega (arith, c.width.ensures) in
-          let digest : take (c.width.result - 0) c.digest-input.new.area ≡ g.G.Digest.value bytes =
+          let digest : take (c.width.result - 0) c.digest_input.new.area ≡ g.G.Digest.value bytes =
           ap (take (c.width.result - 0)) wrote.1 ∙ take_at _ _ (c.width.result - 0) ((g.met.G.Digest.sized bytes).0 ∙ sym width) in
           subst (λ (x : List ℕ). Decides c.agrees.result (c.args.imprint.now ≡ x)) digest c.agrees.ensures;
       over = λ long. let z = (digested.over long).0 in let n : ◌≡◌ {A = ℕ} 0 1 = cc in absurd (omega arith);

@@ -8,8 +8,8 @@ pub returns-in-Some-None : goal.returns-in-Some-None
 returns-in-Some-None g c =
     let D = g.G.Digest.value in
     let found = c.in-Ok.ensures in
-    let answer = own_digests D c.in-Ok.own c.in-Some-None.content _ c.digest-of-in-Some-None.result
-    c.in-Some-None.is-0 (ap (given_bytes g.S.Source.bytes) c.in-Some-None.is-1) c.digest-of-in-Some-None.ensures in
+    let answer = own_digests D c.in-Ok.own c.in-Some-None.content _ c.digest_of-in-Some-None.result
+    c.in-Some-None.is-0 (ap (given_bytes g.S.Source.bytes) c.in-Some-None.is-1) c.digest_of-in-Some-None.ensures in
     record {
       computed = digests_in_lem D c.in-Ok.own _ _ answer (content_in c.args.file.now c.args.message.now.info.content) found.computed;
       meaning = λ settings levels f k m. digests_at D c.in-Ok.own _ _ answer _ (found.meaning settings f levels k.shape k.valid k.bytes_are m);

@@ -6,4 +6,4 @@ pub returns : goal.returns
 returns c =
     let x = c.args.input.now in
     let long = four_long x.content_type.now x.content_digest.now x.fields.now x.index.now in
-    omega (arith, long, c.saturating-add.ensures, c.saturating-add-2.ensures, c.saturating-add-3.ensures)
+    omega (arith, long, c.saturating_add.ensures, c.saturating_add-2.ensures, c.saturating_add-3.ensures)

@@ -5,7 +5,7 @@ use Rattle.imprint.proofs.laws.laws_hold.Goals as goal
 
 pub returns : goal.returns
 returns c = record {
-  one-content = record {
+  one_content = record {
     detached_file = λ given. refl;
     own = λ content bytes e. ap (λ o. chosen o None) e;
     two = λ content bytes given e. ap (λ o. chosen o (Some given)) e;

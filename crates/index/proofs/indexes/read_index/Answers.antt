@@ -7,7 +7,7 @@ use Rattle.index.proofs.indexes.read_index.Goals as goal
 
 pub returns : goal.returns
 returns c =
-    let read = c.read-parts.ensures in
+    let read = c.read_parts.ensures in
     let bytes = c.args.reader.bytes.now in
     let at = c.args.reader.at in
     let end = c.args.reader.end in

@@ -7,8 +7,8 @@ use Rattle.index.proofs.laws.laws_hold.Goals as goal
 
 pub returns : goal.returns
 returns c = record {
-  no-break-is-algorithm = algorithm_of_lem;
-  algorithm-has-no-break = algorithm_kept;
+  no_break_is_algorithm = algorithm_of_lem;
+  algorithm_has_no_break = algorithm_kept;
   no_break_is_index = no_break_is_index;
   index_has_no_break = index_has_no_break;
   none_too_many = none_too_many;

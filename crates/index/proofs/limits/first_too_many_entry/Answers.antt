@@ -6,7 +6,7 @@ use Rattle.index.proofs.limits.first_too_many_entry.Goals as goal
 
 pub returns : goal.returns
 returns c =
-    let found = c.find-in-lists.ensures in
+    let found = c.find_in_lists.ensures in
     let bytes = c.args.file.now in
     record {
       computed = found;

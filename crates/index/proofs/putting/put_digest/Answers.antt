@@ -13,7 +13,7 @@ returns g c =
     record {
       ends = ap (λ (n : ℕ). at + n) width;
       digest = λ few.
-          let wrote = (c.digest-bytes.ensures.fits few).fits (omega (arith, size)) in
-          part_put area _ c.digest-bytes.new.area at _ (omega (arith, width, (g.met.G.Digest.sized c.args.bytes.now).0)) (omega (arith, width, c.requires))
+          let wrote = (c.digest_bytes.ensures.fits few).fits (omega (arith, size)) in
+          part_put area _ c.digest_bytes.new.area at _ (omega (arith, width, (g.met.G.Digest.sized c.args.bytes.now).0)) (omega (arith, width, c.requires))
           (wrote.1 ∙ ap (λ (x : List ℕ). g.G.Digest.value c.args.bytes.now ++ x) (drop_all g.G.Digest.size part (omega (arith, size))) ∙ append-nil _);
     }

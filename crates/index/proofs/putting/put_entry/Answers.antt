@@ -6,8 +6,8 @@ use Rattle.index.proofs.putting.put_entry.Goals as goal
 
 pub returns : goal.returns
 returns g c =
-    let header = c.put-header-body.ensures in
-    let digest = c.put-digest.ensures in
+    let header = c.put_header-body.ensures in
+    let digest = c.put_digest.ensures in
     let value = g.G.Digest.value c.args.element.now in
     let size = c.width.ensures ∙ sym (g.met.G.Digest.sized c.args.element.now).0 in
     let head : header_size_of c.width.result ≡ header_size_of g.G.Digest.size = ap header_size_of c.width.ensures in

@@ -7,6 +7,6 @@ pub returns : goal.returns
 returns g c =
     let small = g.met.G.Digest.small in
     record {
-      value = ap (λ (n : ℕ). c.args.count * n) (c.framed-size.ensures.value ∙ ap framed_size_of c.width.ensures);
-      few = mul-le c.args.count c.framed-size.result 64 68 c.requires (omega (arith, c.framed-size.ensures.few, c.width.ensures, small.1));
+      value = ap (λ (n : ℕ). c.args.count * n) (c.framed_size.ensures.value ∙ ap framed_size_of c.width.ensures);
+      few = mul-le c.args.count c.framed_size.result 64 68 c.requires (omega (arith, c.framed_size.ensures.few, c.width.ensures, small.1));
     }

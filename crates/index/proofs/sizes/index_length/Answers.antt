@@ -8,7 +8,7 @@ same_counts size name c c' r r' u u' p q s = ap (λ (n : ℕ). index_size size n
 
 pub returns : goal.returns
 returns g c =
-    let computed = c.framed-size.ensures.value ∙ ap framed_size_of c.contents-size.ensures.value in
+    let computed = c.framed_size.ensures.value ∙ ap framed_size_of c.contents_size.ensures.value in
     record {
       computed = computed;
       meaning = λ elements p q s.

@@ -13,8 +13,8 @@ use Rattle.index.proofs.writing.put_entries.Goals as goal
 pub loop-init : goal.loop-init
 loop-init g c = (refl, refl, omega arith, (λ ts s. none_done _ _ _ _ _ _ (record { valid = s.valid; bytes = s.bytes }) (put_none _ _)))
 
-pub returns-in-default : goal.returns-in-default
-returns-in-default g c =
+pub returns-in_default : goal.returns-in_default
+returns-in_default g c =
     let inv = c.loop.invariant in
     let room = more_room c.loop.counter c.args.elements.count (framed_size_of g.G.Digest.size) c.loop-test.true in
     record {
@@ -22,11 +22,11 @@ returns-in-default g c =
       entries = λ ts s.
           let h = inv.3 ts s in
           let n = has_next _ _ _ _ _ _ _ h (omega (arith, s.count, c.loop-test.true)) in
-          absurd (c.in-default.ensures.trees n.first (row n.others) s.levels (next_valid _ _ _ _ _ h.left n) (same_part _ _ _ _ _ inv.0 inv.1 ∙ next_bytes _ _ _ _ _ h.left n));
+          absurd (c.in_default.ensures.trees n.first (row n.others) s.levels (next_valid _ _ _ _ _ h.left n) (same_part _ _ _ _ _ inv.0 inv.1 ∙ next_bytes _ _ _ _ _ h.left n));
     }
 
-pub put-entry-stop-requires : goal.put-entry-stop-requires
-put-entry-stop-requires g c =
+pub put_entry-stop-requires : goal.put_entry-stop-requires
+put_entry-stop-requires g c =
     let inv = c.loop.invariant in
     let room = more_room c.loop.counter c.args.elements.count (framed_size_of g.G.Digest.size) c.loop-test.true in
     omega (arith, inv.2, c.requires, c.loop.auto.area)
@@ -35,7 +35,7 @@ pub loop-preserved : goal.loop-preserved
 loop-preserved g c =
     let inv = c.loop.invariant in
     let stands = c.next.ensures.stands in
-    let put = c.put-entry-stop.ensures in (
+    let put = c.put_entry-stop.ensures in (
       stands.0 ∙ inv.0,
       stands.1 ∙ inv.1,
       omega (arith, inv.2, put.ends, add-mul c.loop.counter 1 (framed_size_of g.G.Digest.size)),
@@ -46,8 +46,8 @@ loop-preserved g c =
           let whole : c.whole.result.now ≡ encode n.first =
           c.whole.ensures ∙ ap (λ (x : List ℕ). part x c.in-Ok.element.span.start c.in-Ok.element.span.end) c.in-Ok.ensures.reads.0 ∙ first.whole in
           let few : length c.whole.result.now ≤ most = subst (λ (x : List ℕ). length x ≤ most) (sym whole) (few_bytes n.first s.levels (next_valid _ _ _ _ _ h.left n).0) in
-          let entry : Put c.loop.area c.put-entry-stop.new.area c.loop.stop (encode (entry_tree (g.G.Digest.value (encode n.first)))) c.put-entry-stop.result =
-          subst (λ (x : List ℕ). Put c.loop.area c.put-entry-stop.new.area c.loop.stop (encode (entry_tree (g.G.Digest.value x))) c.put-entry-stop.result) whole (put.entry few) in
+          let entry : Put c.loop.area c.put_entry-stop.new.area c.loop.stop (encode (entry_tree (g.G.Digest.value (encode n.first)))) c.put_entry-stop.result =
+          subst (λ (x : List ℕ). Put c.loop.area c.put_entry-stop.new.area c.loop.stop (encode (entry_tree (g.G.Digest.value x))) c.put_entry-stop.result) whole (put.entry few) in
           next_done _ _ _ _ _ _ _ h n _ c.next.new.self.at (same_part _ _ _ _ _ (sym inv.0) (sym inv.1) ∙ first.rest)
           (entered_more g.G.Digest.value _ _ _ _ _ _ h.done n.first h.held entry)),
     )

@@ -4,5 +4,5 @@ use Rattle.index.proofs.writing.put_lists.Goals as goal
 
 pub returns : goal.returns
 returns g c = λ trees s.
-    put_then _ _ _ _ _ _ _ _ (c.put-list-revocations.ensures.list (trees Certificates) (s Certificates))
-    (put_then _ _ _ _ _ _ _ _ (c.put-list-attributes.ensures.list (trees Revocations) (s Revocations)) (c.put-list.ensures.list (trees Attributes) (s Attributes)))
+    put_then _ _ _ _ _ _ _ _ (c.put_list-revocations.ensures.list (trees Certificates) (s Certificates))
+    (put_then _ _ _ _ _ _ _ _ (c.put_list-attributes.ensures.list (trees Revocations) (s Revocations)) (c.put_list.ensures.list (trees Attributes) (s Attributes)))

@@ -34,5 +34,5 @@ loop-preserved c =
 pub returns : goal.returns
 returns c =
     let inv = c.loop.invariant in
-    c.place-left.ensures ∙ ap (left_of c.loop.reader.at) inv.1
+    c.place_left.ensures ∙ ap (left_of c.loop.reader.at) inv.1
     ∙ sym (inv.2 ∙ past_done any_of span_stop (λ _ _. None) c.args.inside.bytes.now c.args.inside.end c.args.limit c.loop.counter c.loop.reader.at c.loop-test.false)

@@ -4,7 +4,7 @@ use Rattle.limits.proofs.counted.too_many.Goals as goal
 
 pub returns : goal.returns
 returns c =
-    let found = c.find-past.ensures in
+    let found = c.find_past.ensures in
     let bytes = c.args.inside.bytes.now in
     let at = c.args.inside.at in
     let end = c.args.inside.end in

@@ -12,16 +12,16 @@ same_signer file bytes at stop end r p q e = e ∙ ap (λ (x : List ℕ). signer
 pub loop-init : goal.loop-init
 loop-init c = (refl, refl, past_all signer_of signer_stop attributes_past c.args.inside.bytes.now c.args.inside.end c.args.limit c.args.inside.at)
 
-pub returns-in-default : goal.returns-in-default
-returns-in-default c =
+pub returns-in_default : goal.returns-in_default
+returns-in_default c =
     let inv = c.loop.invariant in
     sym (inv.2 ∙ past_none signer_of signer_stop attributes_past c.args.inside.bytes.now c.args.inside.end c.args.limit c.loop.counter c.loop.reader.at _ c.loop-test.true
-    (same_signer _ _ _ _ _ _ inv.0 inv.1 c.in-default.ensures.value))
+    (same_signer _ _ _ _ _ _ inv.0 inv.1 c.in_default.ensures.value))
 
 pub returns-in-Some : goal.returns-in-Some
 returns-in-Some c =
     let inv = c.loop.invariant in
-    let same = c.read-signer.ensures.bytes ∙ inv.0 in
+    let same = c.read_signer.ensures.bytes ∙ inv.0 in
     sym (inv.2 ∙ past_found signer_of signer_stop attributes_past c.args.inside.bytes.now c.args.inside.end c.args.limit c.loop.counter c.loop.reader.at _ _ c.loop-test.true
     (same_signer _ _ _ _ _ _ inv.0 inv.1 c.in-Ok.ensures.value)
     (sym (c.in-Some.ensures ∙ ap (λ (x : List ℕ). attributes_past x c.in-Ok.signer) same)))
@@ -29,17 +29,17 @@ returns-in-Some c =
 pub loop-preserved : goal.loop-preserved
 loop-preserved c =
     let inv = c.loop.invariant in
-    let read = c.read-signer.ensures in
+    let read = c.read_signer.ensures in
     let same = read.bytes ∙ inv.0 in (
       same,
       read.end ∙ inv.1,
       inv.2 ∙ past_on signer_of signer_stop attributes_past c.args.inside.bytes.now c.args.inside.end c.args.limit c.loop.counter c.loop.reader.at _ _ c.loop-test.true
           (same_signer _ _ _ _ _ _ inv.0 inv.1 c.in-Ok.ensures.value)
-          (sym (c.in-default-find-in-signer.ensures ∙ ap (λ (x : List ℕ). attributes_past x c.in-Ok.signer) same)) c.in-Ok.ensures.moved,
+          (sym (c.in_default-find_in_signer.ensures ∙ ap (λ (x : List ℕ). attributes_past x c.in-Ok.signer) same)) c.in-Ok.ensures.moved,
     )
 
 pub returns : goal.returns
 returns c =
     let inv = c.loop.invariant in
-    c.place-left.ensures ∙ ap (left_of c.loop.reader.at) inv.1
+    c.place_left.ensures ∙ ap (left_of c.loop.reader.at) inv.1
     ∙ sym (inv.2 ∙ past_done signer_of signer_stop attributes_past c.args.inside.bytes.now c.args.inside.end c.args.limit c.loop.counter c.loop.reader.at c.loop-test.false)

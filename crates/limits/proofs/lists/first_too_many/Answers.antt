@@ -6,7 +6,7 @@ use Rattle.limits.proofs.lists.first_too_many.Goals as goal
 
 pub returns : goal.returns
 returns c =
-    let found = c.find-in-message.ensures in
+    let found = c.find_in_message.ensures in
     let bytes = c.args.file.now in
     record {
       computed = found;

@@ -10,12 +10,12 @@ use Rattle.matching.proofs.finding.first_missing.Goals as goal
 pub loop-number-init : goal.loop-number-init
 loop-number-init c = (refl, refl, (λ ts s. all_remain _ _ _ _ _ _ (record { valid = s.valid; bytes = s.bytes }) refl))
 
-pub returns-in-default : goal.returns-in-default
-returns-in-default c = λ ts s.
+pub returns-in_default : goal.returns-in_default
+returns-in_default c = λ ts s.
     let inv = c.loop-number.invariant in
     let r = inv.2 ts s in
     let n = next_remains _ _ _ _ _ _ _ r (omega (arith, s.count, c.loop-number-test.true)) in
-    absurd (c.in-default.ensures.trees n.first (row n.others) s.levels (next_valid _ _ _ _ _ r.left n) (same_part _ _ _ _ _ inv.0 inv.1 ∙ next_bytes _ _ _ _ _ r.left n))
+    absurd (c.in_default.ensures.trees n.first (row n.others) s.levels (next_valid _ _ _ _ _ r.left n) (same_part _ _ _ _ _ inv.0 inv.1 ∙ next_bytes _ _ _ _ _ r.left n))
 
 pub returns-then-not-holds : goal.returns-then-not-holds
 returns-then-not-holds c = λ ts s.

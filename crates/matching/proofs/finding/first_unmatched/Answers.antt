@@ -8,15 +8,15 @@ returns-in-Some g c = λ trees x s t.
     found_first g.G.Digest.value (encoded_by trees) x c.in-Some.unmatched
     (c.in-Some.ensures (trees Certificates) (entry_trees x Certificates) (s Certificates) (t Certificates))
 
-pub returns-in-Some-find-in-list : goal.returns-in-Some-find-in-list
-returns-in-Some-find-in-list g c = λ trees x s t.
-    found_second g.G.Digest.value (encoded_by trees) x c.in-Some-find-in-list.unmatched
-    (c.in-default.ensures (trees Certificates) (entry_trees x Certificates) (s Certificates) (t Certificates))
-    (c.in-Some-find-in-list.ensures (trees Revocations) (entry_trees x Revocations) (s Revocations) (t Revocations))
+pub returns-in-Some-find_in_list : goal.returns-in-Some-find_in_list
+returns-in-Some-find_in_list g c = λ trees x s t.
+    found_second g.G.Digest.value (encoded_by trees) x c.in-Some-find_in_list.unmatched
+    (c.in_default.ensures (trees Certificates) (entry_trees x Certificates) (s Certificates) (t Certificates))
+    (c.in-Some-find_in_list.ensures (trees Revocations) (entry_trees x Revocations) (s Revocations) (t Revocations))
 
 pub returns : goal.returns
 returns g c = λ trees x s t.
-    found_third g.G.Digest.value (encoded_by trees) x c.find-in-list-3.result
-    (c.in-default.ensures (trees Certificates) (entry_trees x Certificates) (s Certificates) (t Certificates))
-    (c.in-default-find-in-list.ensures (trees Revocations) (entry_trees x Revocations) (s Revocations) (t Revocations))
-    (c.find-in-list-3.ensures (trees Attributes) (entry_trees x Attributes) (s Attributes) (t Attributes))
+    found_third g.G.Digest.value (encoded_by trees) x c.find_in_list-3.result
+    (c.in_default.ensures (trees Certificates) (entry_trees x Certificates) (s Certificates) (t Certificates))
+    (c.in_default-find_in_list.ensures (trees Revocations) (entry_trees x Revocations) (s Revocations) (t Revocations))
+    (c.find_in_list-3.ensures (trees Attributes) (entry_trees x Attributes) (s Attributes) (t Attributes))

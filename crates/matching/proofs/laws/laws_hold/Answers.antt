@@ -8,5 +8,5 @@ returns c = record {
   none_unmatched = none_unmatched;
   found_is_first = found_is_first;
   inside_tells = inside_tells;
-  all-surveyed = λ D lists trees x. (all_rows D lists trees x, both_sides (rows_of D lists trees x));
+  all_surveyed = λ D lists trees x. (all_rows D lists trees x, both_sides (rows_of D lists trees x));
 }

@@ -10,12 +10,12 @@ use Rattle.matching.proofs.surveying.has_entry.Goals as goal
 pub loop-init : goal.loop-init
 loop-init c = (refl, refl, (λ us s. all_remain _ _ _ _ _ _ (record { valid = s.valid; bytes = s.bytes }) refl))
 
-pub returns-in-default : goal.returns-in-default
-returns-in-default c = λ us s.
+pub returns-in_default : goal.returns-in_default
+returns-in_default c = λ us s.
     let inv = c.loop.invariant in
     let r = inv.2 us s in
     let n = next_remains _ _ _ _ _ _ _ r (omega (arith, s.count, c.loop-test.true)) in
-    absurd (c.in-default.ensures.trees n.first (row n.others) s.levels (next_valid _ _ _ _ _ r.left n) (same_part _ _ _ _ _ inv.0 inv.1 ∙ next_bytes _ _ _ _ _ r.left n))
+    absurd (c.in_default.ensures.trees n.first (row n.others) s.levels (next_valid _ _ _ _ _ r.left n) (same_part _ _ _ _ _ inv.0 inv.1 ∙ next_bytes _ _ _ _ _ r.left n))
 
 pub returns-then-same : goal.returns-then-same
 returns-then-same c = λ us s.

@@ -13,15 +13,15 @@ use Rattle.matching.proofs.surveying.put_rows.Goals as goal
 pub loop-init : goal.loop-init
 loop-init g c = (refl, refl, omega arith, (λ ts us s t. none_done _ _ _ _ _ _ (record { valid = s.valid; bytes = s.bytes }) (record { rows = put_none _ _; reached = refl })))
 
-pub returns-in-default : goal.returns-in-default
-returns-in-default g c =
+pub returns-in_default : goal.returns-in_default
+returns-in_default g c =
     let inv = c.loop.invariant in
     record {
       few = omega (arith, inv.2, c.loop-test.true);
       rows = λ ts us s t.
           let h = inv.3 ts us s t in
           let n = has_next _ _ _ _ _ _ _ h (omega (arith, s.count, c.loop-test.true)) in
-          absurd (c.in-default.ensures.trees n.first (row n.others) s.levels (next_valid _ _ _ _ _ h.left n) (same_part _ _ _ _ _ inv.0 inv.1 ∙ next_bytes _ _ _ _ _ h.left n));
+          absurd (c.in_default.ensures.trees n.first (row n.others) s.levels (next_valid _ _ _ _ _ h.left n) (same_part _ _ _ _ _ inv.0 inv.1 ∙ next_bytes _ _ _ _ _ h.left n));
     }
 
 pub loop-preserved : goal.loop-preserved
@@ -39,7 +39,7 @@ loop-preserved g c =
           let whole : c.whole-whole.result.now ≡ encode n.first =
           c.whole-whole.ensures ∙ ap (λ (x : List ℕ). part x c.in-Ok.element.span.start c.in-Ok.element.span.end) c.in-Ok.ensures.reads.0 ∙ first.whole in
           let few : length c.whole-whole.result.now ≤ most = subst (λ (x : List ℕ). length x ≤ most) (sym whole) (few_bytes n.first s.levels (next_valid _ _ _ _ _ h.left n).0) in
-          let side = c.side-of.ensures us t few ∙ ap (λ (x : List ℕ). side_for (map body_of us) (g.G.Digest.value x)) whole in
+          let side = c.side_of.ensures us t few ∙ ap (λ (x : List ℕ). side_for (map body_of us) (g.G.Digest.value x)) whole in
           let size = length_part c.loop.reader.bytes.now c.in-Ok.element.span.start c.in-Ok.element.span.end in
           let after : c.next.new.self.at ≡ c.loop.reader.at + length (encode n.first) =
           omega (arith, handed.start, handed.body, handed.ends, handed.within, handed.behind, size, ap length first.whole, ap length inv.0, inv.1, s.inside) in

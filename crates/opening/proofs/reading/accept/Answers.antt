@@ -32,7 +32,7 @@ returns c =
       record {
         formed = k.1.formed;
         limits = k.1.limits;
-        rules = sym (c.in-default.ensures k.0 (file_lies file_settings 32 c.args.file.now k.0 k.1.formed c.in-Ok.message k.2));
+        rules = sym (c.in_default.ensures k.0 (file_lies file_settings 32 c.args.file.now k.0 k.1.formed c.in-Ok.message k.2));
       },
       k.2,
     )

@@ -7,19 +7,19 @@ use Rattle.message.proofs.Lying.{file_lies}
 use Rattle.opening.proofs.Telling.{refused_by, told_by, front_is}
 use Rattle.opening.proofs.reading.read.Goals as goal
 
-pub returns-in-err-message : goal.returns-in-err-message
-returns-in-err-message c =
-    let p = err_from_is_err_and c.from-residual.result c.from-residual.ensures.1 in
+pub returns-in_err-message : goal.returns-in_err-message
+returns-in_err-message c =
+    let p = err_from_is_err_and c.from_residual.result c.from_residual.ensures.1 in
     let fits : Fits c.args.buffer.now c.args.n = record { some = omega arith; short = omega arith; there = omega arith } in
-    let r = subst (λ (y : Refusal). RefusedFile (take (c.args.n - 0) c.args.buffer.now) y) (sym p.2) c.in-err-message.ensures in
+    let r = subst (λ (y : Refusal). RefusedFile (take (c.args.n - 0) c.args.buffer.now) y) (sym p.2) c.in_err-message.ensures in
     rw p.1 (refused_by c.args.buffer.now c.args.n c.args.signer p.0 fits
     (subst (λ (x : List ℕ). RefusedFile x p.0) (front_is c.args.buffer.now c.args.n) r))
 
 pub returns : goal.returns
 returns c =
     let fits : Fits c.args.buffer.now c.args.n = record { some = omega arith; short = omega arith; there = omega arith } in
-    let k = c.in-ok-message.ensures in
+    let k = c.in_ok-message.ensures in
     let f = k.0 in
     let a = subst (λ (x : List ℕ). Accepted x f) (front_is c.args.buffer.now c.args.n) k.1 in
-    told_by c.args.buffer.now c.args.n c.args.signer f _ c.tell-number.result fits a refl
-    (c.tell-number.ensures f (file_lies file_settings 32 (take (c.args.n - 0) c.args.buffer.now) f k.1.formed c.in-ok-message.message k.2))
+    told_by c.args.buffer.now c.args.n c.args.signer f _ c.tell_number.result fits a refl
+    (c.tell_number.ensures f (file_lies file_settings 32 (take (c.args.n - 0) c.args.buffer.now) f k.1.formed c.in_ok-message.message k.2))

@@ -14,9 +14,9 @@ counted levels bytes (Some e) (Some ts) l = l.0
 
 pub returns : goal.returns
 returns c = λ f levels p s t u.
-    let form = c.form-of.ensures levels p s u in
-    let policy = c.has-policy.ensures levels p s u in
+    let form = c.form_of.ensures levels p s u in
+    let policy = c.has_policy.ensures levels p s u in
     let count = t.count in
-    let cs = c.count-of.ensures ∙ counted t.levels _ _ f.certificates t.certificates in
-    let rs = c.count-of-2.ensures ∙ counted t.levels _ _ f.revocations t.revocations in
+    let cs = c.count_of.ensures ∙ counted t.levels _ _ f.certificates t.certificates in
+    let rs = c.count_of-2.ensures ∙ counted t.levels _ _ f.revocations t.revocations in
     λ i. record { form = form i; policy = policy i; signers = count i; certificates = cs i; revocations = rs i }

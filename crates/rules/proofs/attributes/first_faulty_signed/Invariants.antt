@@ -9,7 +9,7 @@ use Rattle.rules.proofs.attributes.first_faulty_signed.Given as goal
 abbrev pub invariant-loop-reader : goal.invariant-loop-reader
 invariant-loop-reader l =
     (l.reader.bytes.now ≡ l.signed.bytes.now) × (l.reader.end ≡ l.signed.end)
-    × ((levels : ℕ) (ms : List Attribute) (expected : Tree) → Row levels l.signed.bytes.now l.signed.at l.signed.end ms → l.content-type ≡ encode expected →
+    × ((levels : ℕ) (ms : List Attribute) (expected : Tree) → Row levels l.signed.bytes.now l.signed.at l.signed.end ms → l.content_type ≡ encode expected →
     (before : List Attribute) × (rest : List Attribute) × Row levels l.signed.bytes.now l.signed.at l.reader.at before
     × Row levels l.signed.bytes.now l.reader.at l.signed.end rest
     × (first_faulty (faulty_signed expected) [] l.signed.at ms ≡ first_faulty (faulty_signed expected) before l.reader.at rest))

@@ -6,39 +6,39 @@ use Rattle.rules.proofs.Reading.{no_break, turn}
 use Rattle.rules.proofs.Turning.{same_reading, same_test, with_found, with_missed, with_none}
 use Rattle.rules.proofs.attributes.first_misplaced.Goals as goal
 
-pub returns-in-default : goal.returns-in-default
-returns-in-default c = λ levels ms r.
+pub returns-in_default : goal.returns-in_default
+returns-in_default c = λ levels ms r.
     let inv = c.loop-reader.invariant in
     let left = inv.2 levels ms r in
     let l : c.loop-reader.reader.at < c.args.unsigned.end = omega (arith, inv.1, c.loop-reader-test.true) in
-    absurd (no_break levels c.args.unsigned.bytes.now c.loop-reader.reader.at c.args.unsigned.end l left.0 c.in-default.field-0 left.1
-    (same_reading c.loop-reader.reader.bytes.now c.args.unsigned.bytes.now _ c.loop-reader.reader.end c.args.unsigned.end _ inv.0 inv.1 c.in-default.ensures.value))
+    absurd (no_break levels c.args.unsigned.bytes.now c.loop-reader.reader.at c.args.unsigned.end l left.0 c.in_default.field-0 left.1
+    (same_reading c.loop-reader.reader.bytes.now c.args.unsigned.bytes.now _ c.loop-reader.reader.end c.args.unsigned.end _ inv.0 inv.1 c.in_default.ensures.value))
 
-pub returns-then-is-signed-only : goal.returns-then-is-signed-only
-returns-then-is-signed-only c = λ levels ms r.
+pub returns-then-is_signed_only : goal.returns-then-is_signed_only
+returns-then-is_signed_only c = λ levels ms r.
     let inv = c.loop-reader.invariant in
     let left = inv.2 levels ms r in
     let l : c.loop-reader.reader.at < c.args.unsigned.end = omega (arith, inv.1, c.loop-reader-test.true) in
     let t = turn levels c.args.unsigned.bytes.now c.loop-reader.reader.at c.args.unsigned.end l left.0 c.in-Ok.attribute left.1
     (same_reading c.loop-reader.reader.bytes.now c.args.unsigned.bytes.now _ c.loop-reader.reader.end c.args.unsigned.end _ inv.0 inv.1 c.in-Ok.ensures.value) in
     with_found misplaced levels c.args.unsigned.bytes.now c.loop-reader.reader.at c.args.unsigned.end left.0 c.in-Ok.attribute t
-    (same_test (is_among signed_kinds) c.is-signed-only.result _ c.contents.result.now c.read-attribute.new.reader.bytes.now c.args.unsigned.bytes.now t.first.kind c.in-Ok.attribute.kind.body c.in-Ok.attribute.kind.end
-    c.is-signed-only.ensures c.contents.ensures (c.read-attribute.ensures.bytes ∙ inv.0) t.there.kind c.if-is-signed-only.true)
+    (same_test (is_among signed_kinds) c.is_signed_only.result _ c.contents.result.now c.read_attribute.new.reader.bytes.now c.args.unsigned.bytes.now t.first.kind c.in-Ok.attribute.kind.body c.in-Ok.attribute.kind.end
+    c.is_signed_only.ensures c.contents.ensures (c.read_attribute.ensures.bytes ∙ inv.0) t.there.kind c.if-is_signed_only.true)
     ∙ sym left.2
 
 pub loop-reader-preserved : goal.loop-reader-preserved
 loop-reader-preserved c =
     let inv = c.loop-reader.invariant in (
-      c.read-attribute.ensures.bytes ∙ inv.0,
-      c.read-attribute.ensures.end ∙ inv.1,
+      c.read_attribute.ensures.bytes ∙ inv.0,
+      c.read_attribute.ensures.end ∙ inv.1,
       (λ levels ms r.
           let left = inv.2 levels ms r in
           let l : c.loop-reader.reader.at < c.args.unsigned.end = omega (arith, inv.1, c.loop-reader-test.true) in
           let t = turn levels c.args.unsigned.bytes.now c.loop-reader.reader.at c.args.unsigned.end l left.0 c.in-Ok.attribute left.1
           (same_reading c.loop-reader.reader.bytes.now c.args.unsigned.bytes.now _ c.loop-reader.reader.end c.args.unsigned.end _ inv.0 inv.1 c.in-Ok.ensures.value) in
           let m = with_missed misplaced levels c.args.unsigned.bytes.now c.loop-reader.reader.at c.args.unsigned.end left.0 c.in-Ok.attribute t
-          (same_test (is_among signed_kinds) c.is-signed-only.result _ c.contents.result.now c.read-attribute.new.reader.bytes.now c.args.unsigned.bytes.now t.first.kind c.in-Ok.attribute.kind.body c.in-Ok.attribute.kind.end
-          c.is-signed-only.ensures c.contents.ensures (c.read-attribute.ensures.bytes ∙ inv.0) t.there.kind c.if-is-signed-only.false) in
+          (same_test (is_among signed_kinds) c.is_signed_only.result _ c.contents.result.now c.read_attribute.new.reader.bytes.now c.args.unsigned.bytes.now t.first.kind c.in-Ok.attribute.kind.body c.in-Ok.attribute.kind.end
+          c.is_signed_only.ensures c.contents.ensures (c.read_attribute.ensures.bytes ∙ inv.0) t.there.kind c.if-is_signed_only.false) in
           let moved = sym c.in-Ok.ensures.moved in (
             t.tail,
             subst (λ (a : ℕ). Row levels c.args.unsigned.bytes.now a c.args.unsigned.end t.tail) moved t.others,

@@ -5,15 +5,15 @@ use Rattle.rules.proofs.SignerReading.{same_signer, no_signer_break, signer_turn
 use Rattle.der.specs.Trees.{leaf}
 use Rattle.rules.proofs.signers.find_signer.Goals as goal
 
-pub returns-in-default : goal.returns-in-default
-returns-in-default c = λ levels ss r.
+pub returns-in_default : goal.returns-in_default
+returns-in_default c = λ levels ss r.
     let inv = c.loop-reader.invariant in
     let left = inv.2 levels ss r in
     let file = c.args.signers.bytes.now in
     let at = c.loop-reader.reader.at in
     let end = c.args.signers.end in
     let l : at < end = omega (arith, inv.1, c.loop-reader-test.true) in
-    absurd (no_signer_break levels file at end l left.0 c.in-default.field-0 left.1 (same_signer c.loop-reader.reader.bytes.now file _ c.loop-reader.reader.end end _ inv.0 inv.1 c.in-default.ensures.value))
+    absurd (no_signer_break levels file at end l left.0 c.in_default.field-0 left.1 (same_signer c.loop-reader.reader.bytes.now file _ c.loop-reader.reader.end end _ inv.0 inv.1 c.in_default.ensures.value))
 
 pub returns-then-left-eq0 : goal.returns-then-left-eq0
 returns-then-left-eq0 c = λ levels ss r.
@@ -28,8 +28,8 @@ returns-then-left-eq0 c = λ levels ss r.
 
 pub loop-reader-preserved : goal.loop-reader-preserved
 loop-reader-preserved c = (
-  c.read-signer.ensures.bytes ∙ c.loop-reader.invariant.0,
-  c.read-signer.ensures.end ∙ c.loop-reader.invariant.1,
+  c.read_signer.ensures.bytes ∙ c.loop-reader.invariant.0,
+  c.read_signer.ensures.end ∙ c.loop-reader.invariant.1,
   (λ levels ss r.
       let inv = c.loop-reader.invariant in
       let left = inv.2 levels ss r in

@@ -9,7 +9,7 @@ use Rattle.rules.proofs.signers.first_broken.Given as goal
 abbrev pub invariant-loop-reader : goal.invariant-loop-reader
 invariant-loop-reader l =
     (l.reader.bytes.now ≡ l.signers.bytes.now) × (l.reader.end ≡ l.signers.end)
-    × ((levels : ℕ) (ss : List Signer) (expected : Tree) → Signers levels l.signers.bytes.now l.signers.at l.signers.end ss → l.content-type ≡ encode expected →
+    × ((levels : ℕ) (ss : List Signer) (expected : Tree) → Signers levels l.signers.bytes.now l.signers.at l.signers.end ss → l.content_type ≡ encode expected →
     (rest : List Signer) × Signers levels l.signers.bytes.now l.reader.at l.signers.end rest
     × (first_broken_of expected l.signers.at ss ≡ first_broken_of expected l.reader.at rest))
 

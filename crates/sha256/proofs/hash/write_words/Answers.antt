@@ -14,6 +14,6 @@ two_halves w area x y p q =
 
 pub returns : goal.returns
 returns c =
-    two_halves c.args.w c.args.area.now c.copy-from-slice.new.self c.copy-from-slice-2.new.self
-    (c.copy-from-slice.ensures.after ∙ c.bytes-of.ensures)
-    (c.copy-from-slice-2.ensures.after ∙ c.bytes-of-2.ensures)
+    two_halves c.args.w c.args.area.now c.copy_from_slice.new.self c.copy_from_slice-2.new.self
+    (c.copy_from_slice.ensures.after ∙ c.bytes_of.ensures)
+    (c.copy_from_slice-2.ensures.after ∙ c.bytes_of-2.ensures)

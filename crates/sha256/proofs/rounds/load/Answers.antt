@@ -3,4 +3,4 @@ use Rattle.sha256.proofs.rounds.load.Goals as goal
 
 pub returns : goal.returns
 unfolding M
-returns c = c.from-be-bytes.ensures
+returns c = c.from_be_bytes.ensures

@@ -5,12 +5,12 @@ pub returns : goal.returns
 unfolding squeezed
 returns c =
     simp (
-      c.copy-from-slice.ensures.after,
-      c.copy-from-slice-2.ensures.after,
-      c.copy-from-slice-3.ensures.after,
-      c.copy-from-slice-4.ensures.after,
-      c.to-le-bytes.ensures,
-      c.to-le-bytes-2.ensures,
-      c.to-le-bytes-3.ensures,
-      c.to-le-bytes-4.ensures,
+      c.copy_from_slice.ensures.after,
+      c.copy_from_slice-2.ensures.after,
+      c.copy_from_slice-3.ensures.after,
+      c.copy_from_slice-4.ensures.after,
+      c.to_le_bytes.ensures,
+      c.to_le_bytes-2.ensures,
+      c.to_le_bytes-3.ensures,
+      c.to_le_bytes-4.ensures,
     )

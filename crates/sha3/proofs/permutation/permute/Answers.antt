@@ -14,14 +14,14 @@ pub loop-i-preserved : goal.loop-i-preserved
 loop-i-preserved c =
     c.round-t.ensures
     ∙ ap (Rnd (get_or constants c.loop-i.i 0)) c.loop-i.invariant
-    ∙ sym (rounds_more c.loop-i.i (righted (lanes c.turn-kept-t.result)))
+    ∙ sym (rounds_more c.loop-i.i (righted (lanes c.turn_kept-t.result)))
 
 pub returns : goal.returns
 unfolding keccak
 returns c =
     let e : c.loop-i.i ≡ 24 = omega arith in
-    c.turn-kept.ensures
+    c.turn_kept.ensures
     ∙ c.loop-i.invariant
-    ∙ ap (λ n. rounds n (righted (lanes c.turn-kept-t.result))) e
-    ∙ ap (λ z. rounds 24 (righted z)) c.turn-kept-t.ensures
+    ∙ ap (λ n. rounds n (righted (lanes c.turn_kept-t.result))) e
+    ∙ ap (λ z. rounds 24 (righted z)) c.turn_kept-t.ensures
     ∙ ap (rounds 24) (righted_twice c.args.s)

@@ -12,5 +12,5 @@ returns c = record {
   late_laws = late_laws;
   signer_stays = signer_stays;
   stamp_stays = stamp_stays;
-  empty-index = λ D. refl;
+  empty_index = λ D. refl;
 }

@@ -17,30 +17,30 @@ returns-in-Err c = subst (λ (s : Settings). Faulty s c.args.levels c.args.token
 pub unreachable-requires : goal.unreachable-requires
 unreachable-requires c =
     let w = as_token _ c.args.levels c.args.token.now c.in-Ok.message c.settings.ensures c.in-Ok.ensures in
-    octets_there c.args.token.now w.0 c.in-Ok.message (octets_of_lem c.args.levels c.args.token.now w.0 w.1.formed) w.2 c.in-default.ensures
+    octets_there c.args.token.now w.0 c.in-Ok.message (octets_of_lem c.args.levels c.args.token.now w.0 w.1.formed) w.2 c.in_default.ensures
 
-pub unreachable-requires-in-default-find-signer : goal.unreachable-requires-in-default-find-signer
-unreachable-requires-in-default-find-signer c =
+pub unreachable-requires-in_default-find_signer : goal.unreachable-requires-in_default-find_signer
+unreachable-requires-in_default-find_signer c =
     let w = as_token _ c.args.levels c.args.token.now c.in-Ok.message c.settings.ensures c.in-Ok.ensures in
     let l = file_lies token_settings c.args.levels c.args.token.now w.0 w.1.formed c.in-Ok.message w.2 in
-    let i = c.signers-of.ensures in
-    let s = signers_moved l.levels c.args.token.now c.signers-of.result.bytes.now _ _ _ _ w.0.signers (sym i.0) (sym i.1) (sym i.2) l.signers in
-    signer_there c.signers-of.result.at w.0.signers w.1.formed.shape.count (c.in-default-find-signer.ensures l.levels w.0.signers s)
+    let i = c.signers_of.ensures in
+    let s = signers_moved l.levels c.args.token.now c.signers_of.result.bytes.now _ _ _ _ w.0.signers (sym i.0) (sym i.1) (sym i.2) l.signers in
+    signer_there c.signers_of.result.at w.0.signers w.1.formed.shape.count (c.in_default-find_signer.ensures l.levels w.0.signers s)
 
-pub returns-in-Err-read-info : goal.returns-in-Err-read-info
-returns-in-Err-read-info c =
+pub returns-in-Err-read_info : goal.returns-in-Err-read_info
+returns-in-Err-read_info c =
     let w = as_token _ c.args.levels c.args.token.now c.in-Ok.message c.settings.ensures c.in-Ok.ensures in
-    no_info c.args.levels c.args.token.now c.contents.result.now c.in-Ok.message c.in-Some.octets c.in-Err-read-info.fault w
-    c.in-Some.ensures c.contents.ensures c.in-Err-read-info.ensures
+    no_info c.args.levels c.args.token.now c.contents.result.now c.in-Ok.message c.in-Some.octets c.in-Err-read_info.fault w
+    c.in-Some.ensures c.contents.ensures c.in-Err-read_info.ensures
 
-pub returns-in-Ok-read-info : goal.returns-in-Ok-read-info
-returns-in-Ok-read-info c =
+pub returns-in-Ok-read_info : goal.returns-in-Ok-read_info
+returns-in-Ok-read_info c =
     let w = as_token _ c.args.levels c.args.token.now c.in-Ok.message c.settings.ensures c.in-Ok.ensures in
     let l = file_lies token_settings c.args.levels c.args.token.now w.0 w.1.formed c.in-Ok.message w.2 in
-    let i = c.signers-of.ensures in
-    let s = signers_moved l.levels c.args.token.now c.signers-of.result.bytes.now _ _ _ _ w.0.signers (sym i.0) (sym i.1) (sym i.2) l.signers in
-    let n = signer_found l.levels c.signers-of.result.bytes.now c.signers-of.result.at c.signers-of.result.end w.0.signers c.in-Some-find-signer.signer w.1.formed.shape.count s
-    (c.in-Some-find-signer.ensures l.levels w.0.signers s) in
-    token_at c.args.levels c.args.token.now c.contents.result.now c.in-Ok.message c.in-Some.octets c.in-Some-find-signer.signer c.in-Ok-read-info.info w
-    c.in-Some.ensures c.contents.ensures c.in-Ok-read-info.ensures
-    (n.0, n.1, subst (λ (x : List ℕ). SignerLies x c.in-Some-find-signer.signer n.0) i.0 n.2, n.3 ∙ i.1 ∙ l.from)
+    let i = c.signers_of.ensures in
+    let s = signers_moved l.levels c.args.token.now c.signers_of.result.bytes.now _ _ _ _ w.0.signers (sym i.0) (sym i.1) (sym i.2) l.signers in
+    let n = signer_found l.levels c.signers_of.result.bytes.now c.signers_of.result.at c.signers_of.result.end w.0.signers c.in-Some-find_signer.signer w.1.formed.shape.count s
+    (c.in-Some-find_signer.ensures l.levels w.0.signers s) in
+    token_at c.args.levels c.args.token.now c.contents.result.now c.in-Ok.message c.in-Some.octets c.in-Some-find_signer.signer c.in-Ok-read_info.info w
+    c.in-Some.ensures c.contents.ensures c.in-Ok-read_info.ensures
+    (n.0, n.1, subst (λ (x : List ℕ). SignerLies x c.in-Some-find_signer.signer n.0) i.0 n.2, n.3 ∙ i.1 ∙ l.from)

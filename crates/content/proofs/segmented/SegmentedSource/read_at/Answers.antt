@@ -8,5 +8,5 @@ pub returns : goal.returns
 returns c =
     let block = c.args.block.now in
     let room : c.min-room.result - 0 ≡ min (length block) (8388608 - c.args.place) =
-    sub-zero c.min-room.result ∙ c.min-room.ensures ∙ ap (min (length block)) c.saturating-sub.ensures in
-    read_clipped (joined_of c.args.self.now.segments) 8388608 c.args.place (c.min-room.result - 0) block c.read-segments.new.block c.read-segments.result room c.read-segments.ensures
+    sub-zero c.min-room.result ∙ c.min-room.ensures ∙ ap (min (length block)) c.saturating_sub.ensures in
+    read_clipped (joined_of c.args.self.now.segments) 8388608 c.args.place (c.min-room.result - 0) block c.read_segments.new.block c.read_segments.result room c.read_segments.ensures

@@ -6,7 +6,7 @@ use Rattle.index.proofs.located.IndexParts.entries.Goals as goal
 
 pub returns : goal.returns
 returns c =
-    let found = c.entries-of.ensures in
+    let found = c.entries_of.ensures in
     record {
       computed = found;
       meaning = λ file x levels at end v l e m.

@@ -21,7 +21,7 @@ returns-in-Ok c =
           let f = c.in-Ok.ensures.trees t ts levels v e in (
             (
               reads.1.start,
-              (c.whole.result, c.item-of.ensures, c.whole.ensures ∙ ap (λ (x : List ℕ). part x c.in-Ok.element.span.start c.in-Ok.element.span.end) reads.0 ∙ f.whole),
+              (c.whole.result, c.item_of.ensures, c.whole.ensures ∙ ap (λ (x : List ℕ). part x c.in-Ok.element.span.start c.in-Ok.element.span.end) reads.0 ∙ f.whole),
             ),
             ap (λ (x : List ℕ). part x c.next.new.self.at c.next.new.self.end) same.0 ∙ ap (part c.args.self.now.reader.bytes.now c.next.new.self.at) same.1 ∙ f.rest,
           );

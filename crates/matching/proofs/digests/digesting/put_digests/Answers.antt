@@ -12,15 +12,15 @@ use Rattle.matching.proofs.digests.digesting.put_digests.Goals as goal
 pub loop-init : goal.loop-init
 loop-init g c = (refl, refl, omega arith, (λ ts s. none_done _ _ _ _ _ _ (record { valid = s.valid; bytes = s.bytes }) (put_none _ _)))
 
-pub returns-in-default : goal.returns-in-default
-returns-in-default g c = λ ts s.
+pub returns-in_default : goal.returns-in_default
+returns-in_default g c = λ ts s.
     let inv = c.loop.invariant in
     let h = inv.3 ts s in
     let n = has_next _ _ _ _ _ _ _ h (omega (arith, s.count, c.loop-test.true)) in
-    absurd (c.in-default.ensures.trees n.first (row n.others) s.levels (next_valid _ _ _ _ _ h.left n) (same_part _ _ _ _ _ inv.0 inv.1 ∙ next_bytes _ _ _ _ _ h.left n))
+    absurd (c.in_default.ensures.trees n.first (row n.others) s.levels (next_valid _ _ _ _ _ h.left n) (same_part _ _ _ _ _ inv.0 inv.1 ∙ next_bytes _ _ _ _ _ h.left n))
 
-pub put-digest-stop-requires : goal.put-digest-stop-requires
-put-digest-stop-requires g c =
+pub put_digest-stop-requires : goal.put_digest-stop-requires
+put_digest-stop-requires g c =
     let room = more_room c.loop.counter c.args.elements.count g.G.Digest.size c.loop-test.true in
     omega (arith, c.loop.invariant.2, c.requires, c.loop.auto.area)
 
@@ -28,7 +28,7 @@ pub loop-preserved : goal.loop-preserved
 loop-preserved g c =
     let inv = c.loop.invariant in
     let stands = c.next.ensures.stands in
-    let put = c.put-digest-stop.ensures in (
+    let put = c.put_digest-stop.ensures in (
       stands.0 ∙ inv.0,
       stands.1 ∙ inv.1,
       omega (arith, inv.2, put.ends, add-mul c.loop.counter 1 g.G.Digest.size),
@@ -39,8 +39,8 @@ loop-preserved g c =
           let whole : c.whole.result.now ≡ encode n.first =
           c.whole.ensures ∙ ap (λ (x : List ℕ). part x c.in-Ok.element.span.start c.in-Ok.element.span.end) c.in-Ok.ensures.reads.0 ∙ first.whole in
           let few : length c.whole.result.now ≤ most = subst (λ (x : List ℕ). length x ≤ most) (sym whole) (few_bytes n.first s.levels (next_valid _ _ _ _ _ h.left n).0) in
-          let digest : Put c.loop.area c.put-digest-stop.new.area c.loop.stop (g.G.Digest.value (encode n.first)) c.put-digest-stop.result =
-          subst (λ (x : List ℕ). Put c.loop.area c.put-digest-stop.new.area c.loop.stop (g.G.Digest.value x) c.put-digest-stop.result) whole (put.digest few) in
+          let digest : Put c.loop.area c.put_digest-stop.new.area c.loop.stop (g.G.Digest.value (encode n.first)) c.put_digest-stop.result =
+          subst (λ (x : List ℕ). Put c.loop.area c.put_digest-stop.new.area c.loop.stop (g.G.Digest.value x) c.put_digest-stop.result) whole (put.digest few) in
           next_done _ _ _ _ _ _ _ h n _ c.next.new.self.at (same_part _ _ _ _ _ (sym inv.0) (sym inv.1) ∙ first.rest)
           (digested_more g.G.Digest.value _ _ _ _ _ h.done n.first h.held digest)),
     )

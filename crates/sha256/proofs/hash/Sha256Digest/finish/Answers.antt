@@ -13,6 +13,6 @@ returns c = λ xs is.
     let h : Holds c.padded.result (padded xs) =
     subst (Holds c.padded.result) e (subst (λ t. Holds t (xs ++ padding s.count)) (sym c.padded.ensures) (holds_fed (padding s.count) s xs is)) in
     record {
-      fits = λ _. (refl, c.write-words.ensures ∙ ap (λ w. written w ++ drop 32 c.args.area.now) h.chained);
+      fits = λ _. (refl, c.write_words.ensures ∙ ap (λ w. written w ++ drop 32 c.args.area.now) h.chained);
       short = λ l. absurd (omega arith);
     }

@@ -2,8 +2,8 @@ use Rattle.std.proofs.Common.{◌≡◌, ◌+◌, ◌≤◌, List, ◌++◌, len
 use Rattle.digest.specs.Took.{Took}
 use Rattle.sha256.proofs.hash.Sha256Digest.take.Goals as goal
 
-pub invariant-of-self : goal.invariant-of-self
-invariant-of-self c =
+pub invariant_of-self : goal.invariant_of-self
+invariant_of-self c =
     let n = c.absorb.ensures.counts in
     (omega (arith, n, c.args.self.now.few), tt)
 

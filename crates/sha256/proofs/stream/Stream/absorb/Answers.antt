@@ -31,7 +31,7 @@ loop-i-preserved-then-bytes-i-ge64 c =
     let full : (end - i) % 64 ≡ 0 = omega arith in (
       high,
       omega (arith, c.loop-i.invariant.1),
-      λ xs h. taken s bytes xs i end c.compress-blocks-self.result even low high full c.compress-blocks-self.ensures (c.loop-i.invariant.2 xs h),
+      λ xs h. taken s bytes xs i end c.compress_blocks-self.result even low high full c.compress_blocks-self.ensures (c.loop-i.invariant.2 xs h),
     )
 
 pub loop-i-preserved : goal.loop-i-preserved

@@ -21,7 +21,7 @@ feed-requires c =
     let first = ap (λ s. s.count) c.push.ensures ∙ count_pushed c.args.self 128 in
     let n = ap (λ s. s.count) c.loop-i.invariant ∙ count_fed (replicate c.loop-i.-i 0) c.push.new.self in
     let m = length-replicate {A = ℕ} c.loop-i.-i 0 in
-    let bits = ap length c.to-be-bytes-bits.ensures in
+    let bits = ap length c.to_be_bytes-bits.ensures in
     omega (arith, first, n, m, bits)
 
 pub returns : goal.returns
@@ -31,7 +31,7 @@ returns c =
     let zeros = fill_bytes_of n in
     let all : c.loop-i.-i ≡ zeros = omega arith in
     c.feed.ensures
-    ∙ ap (fed c.loop-i.s) c.to-be-bytes-bits.ensures
+    ∙ ap (fed c.loop-i.s) c.to_be_bytes-bits.ensures
     ∙ ap (λ s. fed s (eight (8 * n)))
     (c.loop-i.invariant ∙ ap (λ i. fed c.push.new.self (replicate i 0)) all ∙ ap (λ s. fed s (replicate zeros 0)) c.push.ensures)
     ∙ sym (fed_append c.args.self (128 ∷ replicate zeros 0) (eight (8 * n)))

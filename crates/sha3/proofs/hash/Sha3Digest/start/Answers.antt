@@ -3,8 +3,8 @@ use Rattle.sha3.specs.Streams.{Holds}
 use Rattle.sha3.proofs.Holding.{holds_fresh}
 use Rattle.sha3.proofs.hash.Sha3Digest.start.Goals as goal
 
-pub invariant-of-result : goal.invariant-of-result
-invariant-of-result c = let n = ap (λ s. s.count) c.empty.ensures in (omega (arith, n), tt)
+pub invariant_of-result : goal.invariant_of-result
+invariant_of-result c = let n = ap (λ s. s.count) c.empty.ensures in (omega (arith, n), tt)
 
 pub returns : goal.returns
 returns c = subst (λ s. Holds s []) (sym c.empty.ensures) holds_fresh

@@ -20,7 +20,7 @@ loop-i-preserved-then-bytes-i-ge136 c =
           let next : (xs ++ take i bytes) ++ block ≡ xs ++ take (i + 136) bytes =
           append_assoc xs (take i bytes) block
           ∙ ap (λ z. xs ++ z) (ap (λ k. take i bytes ++ take k (drop i bytes)) width ∙ sym (take-add i 136 bytes)) in
-          subst (Holds _) next (holds_block s c.absorb-block.new.state (xs ++ take i bytes) block even full c.absorb-block.ensures (c.loop-i.invariant.2 xs h)),
+          subst (Holds _) next (holds_block s c.absorb_block.new.state (xs ++ take i bytes) block even full c.absorb_block.ensures (c.loop-i.invariant.2 xs h)),
     )
 
 pub loop-i-preserved : goal.loop-i-preserved

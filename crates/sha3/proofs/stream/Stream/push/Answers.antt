@@ -5,7 +5,7 @@ use Rattle.sha3.proofs.stream.Stream.push.Goals as goal
 pub returns-then-at-eq135 : goal.returns-then-at-eq135
 returns-then-at-eq135 c =
     record {
-      holds = λ xs h. holds_full c.args.self.now c.absorb-block.new.state xs c.args.b c.if-at-eq135.true c.absorb-block.ensures h;
+      holds = λ xs h. holds_full c.args.self.now c.absorb_block.new.state xs c.args.b c.if-at-eq135.true c.absorb_block.ensures h;
       counts = refl;
     }
 
