@@ -3,7 +3,7 @@
 //! was made by another program: tests/make_cases.py.
 #![tactic(auto)]
 
-use hex::read_hex;
+use hex_digits::read_hex;
 use plan_line::tell_form;
 use std::alloc::{AllocError, Global};
 use std::io::{BufRead, BufReader};

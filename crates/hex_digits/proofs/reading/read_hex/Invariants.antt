@@ -1,7 +1,7 @@
 use Rattle.std.proofs.Common.{◌≡◌, length, vec_items}
-use Rattle.hex.specs.Digits.{bytes_of}
-use Rattle.hex.proofs.Stepping.{with_all}
-use Rattle.hex.proofs.reading.read_hex.Given as goal
+use Rattle.hex_digits.specs.Digits.{bytes_of}
+use Rattle.hex_digits.proofs.Stepping.{with_all}
+use Rattle.hex_digits.proofs.reading.read_hex.Given as goal
 
 -- the bytes so far, and those that are left
 abbrev pub invariant-loop-rest : goal.invariant-loop-rest

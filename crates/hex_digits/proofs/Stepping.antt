@@ -1,7 +1,7 @@
 -- Two digits at a time.
 use Rattle.std.proofs.Common.{◌≡◌, ℕ, suc, ◌+◌, ◌-◌, ◌*◌, ◌≤◌, List, [], ◌∷◌, ◌++◌, length, get_or, take, drop, Some, None, Option, sym, refl, ap, ◌∙◌, arith}
 use Rattle.std.proofs.lemmas.List.{take_all, append_assoc}
-use Rattle.hex.specs.Digits.{value_of, with_byte, bytes_of}
+use Rattle.hex_digits.specs.Digits.{value_of, with_byte, bytes_of}
 
 -- bytes in front of those that are left
 abbrev pub with_all : List ℕ → Option (List ℕ) → Option (List ℕ)

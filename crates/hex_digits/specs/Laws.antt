@@ -2,7 +2,7 @@
 use Rattle.std.specs.Prelude.{◌≡◌, ℕ, List, Some}
 use Rattle.digest.specs.Bytes.{Bytes}
 use Rattle.digest_line.specs.Hex.{hex_of}
-use Rattle.hex.specs.Digits.{bytes_of}
+use Rattle.hex_digits.specs.Digits.{bytes_of}
 
 -- what is written is read
 abbrev pub WrittenIsRead : Type 0

@@ -2,8 +2,8 @@
 use Rattle.std.proofs.Common.{◌≡◌, ℕ, ◌+◌, ◌*◌, ◌/◌, ◌%◌, ◌<◌, List, [], ◌∷◌, Some, None, Option, refl, ap, ◌∙◌, arith}
 use Rattle.std.proofs.lemmas.Bool.Decides.{nat_tests}
 use Rattle.digest_line.specs.Hex.{digit_for, hex_of}
-use Rattle.hex.specs.Digits.{value_of, with_byte, bytes_of}
-use Rattle.hex.specs.Laws.{WrittenIsRead, ReadWasWritten}
+use Rattle.hex_digits.specs.Digits.{value_of, with_byte, bytes_of}
+use Rattle.hex_digits.specs.Laws.{WrittenIsRead, ReadWasWritten}
 
 -- a digit that is written is read
 digit_read : (n : ℕ) → n < 16 → value_of (digit_for n) ≡ Some n

@@ -1,8 +1,8 @@
 use Rattle.std.proofs.Common.{◌≡◌, ℕ, ◌+◌, ◌-◌, ◌*◌, List, [], ◌∷◌, ◌++◌, length, take, drop, vec_items, sym, refl, ap, ◌∙◌, rules}
 use Rattle.std.proofs.lemmas.Slice.{pushed}
-use Rattle.hex.specs.Digits.{bytes_of}
-use Rattle.hex.proofs.Stepping.{with_all, next_byte}
-use Rattle.hex.proofs.reading.read_hex.Goals as goal
+use Rattle.hex_digits.specs.Digits.{bytes_of}
+use Rattle.hex_digits.proofs.Stepping.{with_all, next_byte}
+use Rattle.hex_digits.proofs.reading.read_hex.Goals as goal
 
 pub loop-rest-preserved : goal.loop-rest-preserved
 loop-rest-preserved c =

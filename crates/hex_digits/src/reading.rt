@@ -1,6 +1,6 @@
 //! Digits and the bytes that they give.
 ghost use Rattle.std.specs.Prelude.{◌≡◌, ◌<◌, IfSome, IfOk, Some, None, MatchOption};
-ghost use Rattle.hex.specs.Digits.{value_of, bytes_of};
+ghost use Rattle.hex_digits.specs.Digits.{value_of, bytes_of};
 
 use std::alloc::{AllocError, Global};
 
