@@ -1,7 +1,7 @@
 -- A file that ends with its element.
-use Rattle.std.proofs.Common.{◌≡◌, ℕ, ◌≤◌, List, [], ◌++◌, length, sym, ap, ◌∙◌}
+use Rattle.std.proofs.Common.{◌≡◌, ℕ, ◌≤◌, List, [], ◌++◌, length, ap, ◌∙◌}
 use Rattle.std.proofs.lemmas.List.{append-nil, take_all}
-use Rattle.der.specs.Trees.{Tree, Forest, none, more, Starts, Forms, Valid, Valids, encode, encodes}
+use Rattle.der.specs.Trees.{Tree, Forest, none, more, Starts, Forms, Valids, encode, encodes}
 use Rattle.listing.specs.declared.line.Line.{Line}
 use Rattle.listing.specs.Listed.{lines_of, lines_in}
 use Rattle.listing.specs.Told.{Sized, Whole}

@@ -1,18 +1,16 @@
 -- A file has one outline: what is told of it is all that can be told.
-use Rattle.std.proofs.Common.{◌≡◌, ℕ, ◌+◌, ◌-◌, ◌<◌, ◌≤◌, List, [], ◌∷◌, ◌++◌, length, take, drop, Ok, Err, vec_items, sym, refl, ap, ◌∙◌, arith}
+use Rattle.std.proofs.Common.{◌≡◌, ℕ, ◌+◌, ◌<◌, ◌≤◌, List, [], ◌++◌, length, drop, sym, refl, ap, ◌∙◌, arith}
 use Rattle.std.proofs.lemmas.List.{append-nil, length-drop, take-append-drop}
 use Rattle.der.specs.declared.fault.Fault.{Fault}
-use Rattle.der.specs.Head.{header_of}
-use Rattle.der.specs.Trees.{Tree, Forest, none, more, Starts, Forms, Valid, encode, encodes}
-use Rattle.der.specs.Faults.{InElement, InForest, deep, head, inside, first}
+use Rattle.der.specs.Trees.{Tree, Starts, encode}
+use Rattle.der.specs.Faults.{InElement, deep, head, inside, first}
 use Rattle.der.proofs.Unique.{same_tree, no_fault, one_fault}
-use Rattle.listing.specs.declared.line.Line.{Line}
 use Rattle.listing.specs.declared.refusal.Refusal.{Refusal}
 use Rattle.listing.specs.declared.refusal.Refusal.TheVariants.{Length, Element, Surplus}
 use Rattle.listing.specs.declared.outline.Outline.{Outline}
 use Rattle.listing.specs.declared.outline.Outline.TheVariants.{Lines, Refused}
 use Rattle.listing.specs.Listed.{lines_of}
-use Rattle.listing.specs.Told.{Sized, Whole, Refuses, Tells}
+use Rattle.listing.specs.Told.{Whole, Refuses, Tells}
 use Rattle.listing.specs.Words.{refusal_text}
 use Rattle.listing.specs.Pages.{ended, lines_text, outline_text, TextOf}
 use Rattle.listing.proofs.Turns.{Begins, header_is, parts_of_lem}

@@ -1,14 +1,14 @@
 -- What the loop over elements back to back does in one turn.
-use Rattle.std.proofs.Common.{◌≡◌, ℕ, suc, ◌+◌, ◌-◌, ◌<◌, ◌≤◌, List, [], ◌∷◌, ◌++◌, length, take, drop, Ok, Err, Result, sym, refl, ap, ◌∙◌, subst, add_assoc, arith}
+use Rattle.std.proofs.Common.{◌≡◌, ℕ, ◌+◌, ◌-◌, ◌<◌, ◌≤◌, List, [], ◌∷◌, ◌++◌, length, take, drop, Ok, Err, Result, sym, refl, ap, ◌∙◌, subst, arith}
 use lib.Bits.{bit_and}
 use Rattle.std.proofs.lemmas.List.{append_assoc, append-nil, length-append, length-drop, drop_at, drop-drop, drop_all, take_at, take_rest}
 use Rattle.der.specs.declared.header.Header.{Header}
 use Rattle.der.specs.declared.cause.Cause.{Cause}
 use Rattle.der.specs.Head.{header_of}
-use Rattle.der.specs.Trees.{Tree, leaf, node, Forest, none, more, Sound, Constructed, Forms, Valid, Valids, framed, encode, encodes}
+use Rattle.der.specs.Trees.{Tree, leaf, node, Forest, none, more, Constructed, Forms, Valid, Valids, encode, encodes}
 use Rattle.der.proofs.Unique.{of_frame}
 use Rattle.listing.specs.declared.line.Line.{Line}
-use Rattle.listing.specs.Listed.{head_of, line_of, lines_of, lines_in}
+use Rattle.listing.specs.Listed.{head_of, lines_of, lines_in}
 
 -- an element's tag and contents
 abbrev tag_in : Tree → ℕ

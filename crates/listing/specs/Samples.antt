@@ -1,5 +1,5 @@
 -- Samples: an outline and the three refusals as they are printed.
-use Rattle.std.specs.Prelude.{◌≡◌, ℕ, [], codes}
+use Rattle.std.specs.Prelude.{◌≡◌, [], codes}
 use Rattle.der.specs.declared.cause.Cause.TheVariants.{Missing}
 use Rattle.der.specs.Trees.{Tree, leaf, node, none, more}
 use Rattle.listing.specs.declared.refusal.Refusal.TheVariants.{Length, Element, Surplus}

@@ -6,7 +6,7 @@ use Rattle.listing.proofs.outline.OutlineDisplay.fmt.Goals as goal
 pub loop-line-preserved : goal.loop-line-preserved
 loop-line-preserved g c plain =
     put_line g.W.Write.write_str_gives c.args.f.now c.loop-line.f c.writeln.new.self c.as_slice-line-items.result.now c.loop-line.line-index _ c.loop-line-test.true
-    (c.loop-line.invariant plain) (c.in_ok-writeln.ensures.writes (c.loop-line.invariant plain).plain (refl {a = true}))
+    (c.loop-line.invariant plain) (c.in_ok-writeln-in-Lines.ensures.writes (c.loop-line.invariant plain).plain (refl {a = true}))
 
 pub returns-after-loop-line-clause-writes : goal.returns-after-loop-line-clause-writes
 returns-after-loop-line-clause-writes g c plain ok =

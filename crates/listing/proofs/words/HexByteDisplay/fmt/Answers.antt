@@ -1,4 +1,4 @@
-use Rattle.std.proofs.Common.{arith, rules}
+use Rattle.std.proofs.Common.{rules}
 use Rattle.std.proofs.Output.{has_written_of_eq}
 use Rattle.listing.proofs.Texts.{hex_text_lem}
 use Rattle.listing.proofs.words.HexByteDisplay.fmt.Goals as goal
