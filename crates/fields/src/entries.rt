@@ -17,7 +17,7 @@ pub trait Entry {
 
 /// How many entries stand from the reader's offset to its end.
 pub fn count<E: Entry>(inside: Reader) -> Result<usize, usize>
-    ensures { result ≡ list_of outcome inside.entry.bytes.now inside.entry.at inside.entry.end }
+    ensures { result ≡ list_of E.outcome inside.entry.bytes.now inside.entry.at inside.entry.end }
 {
     let mut reader = inside;
     let mut count = 0;
@@ -30,7 +30,7 @@ pub fn count<E: Entry>(inside: Reader) -> Result<usize, usize>
 
 /// The same, at least one.
 pub fn count_some<E: Entry>(inside: Reader) -> Result<usize, usize>
-    ensures { result ≡ some_of outcome inside.entry.bytes.now inside.entry.at inside.entry.end }
+    ensures { result ≡ some_of E.outcome inside.entry.bytes.now inside.entry.at inside.entry.end }
 {
     if inside.at < inside.end {
         count::<E>(inside)
