@@ -1,4 +1,4 @@
-use Rattle.std.proofs.Common.{ℕ, ◌+◌, ◌-◌, length, subst, arith}
+use Rattle.std.proofs.Common.{ℕ, ◌+◌, ◌-◌, subst, arith}
 use Rattle.der.specs.Trees.{header_bytes}
 use Rattle.grow.specs.Splices.{Parted}
 use Rattle.grow.proofs.Overlays.{filled}
