@@ -11,7 +11,7 @@ use crate::source::Source;
 /// Writes the digest of the bytes to the front of the area.
 /// Refuses more than 16,777,216 bytes, and then an area that is too short; the area stays as it was.
 pub fn digest_bytes<G: Digest>(bytes: &[u8], area: &mut [u8]) -> Result<(), Refusal>
-    ensures { Digested value size bytes.now area.old area.new result }
+    ensures { Digested G.value G.size bytes.now area.old area.new result }
 {
     let mut state = G::start();
     state.take(bytes)?;
@@ -21,7 +21,7 @@ pub fn digest_bytes<G: Digest>(bytes: &[u8], area: &mut [u8]) -> Result<(), Refu
 /// Gives the pieces to the state in their order.
 /// Refuses the first that would pass 16,777,216 bytes; those before it are taken.
 fn take_pieces<G: Digest>(state: &mut G, pieces: &[&[u8]]) -> Result<(), Refusal>
-    ensures { (xs : List ℕ) → stands state.old xs → length xs ≤ 16777216 → TookAll stands state.new (flat_map (λ p. p.now) pieces.now) xs result }
+    ensures { (xs : List ℕ) → G.stands state.old xs → length xs ≤ 16777216 → TookAll G.stands state.new (flat_map (λ p. p.now) pieces.now) xs result }
 {
     for piece in pieces {
         state.take(piece)?;
@@ -32,7 +32,7 @@ fn take_pieces<G: Digest>(state: &mut G, pieces: &[&[u8]]) -> Result<(), Refusal
 /// Writes the digest of the pieces, joined in their order, to the front of the area.
 /// Refuses as `digest_bytes` does of the joined bytes.
 pub fn digest_pieces<G: Digest>(pieces: &[&[u8]], area: &mut [u8]) -> Result<(), Refusal>
-    ensures { Digested value size (flat_map (λ p. p.now) pieces.now) area.old area.new result }
+    ensures { Digested G.value G.size (flat_map (λ p. p.now) pieces.now) area.old area.new result }
 {
     let mut state = G::start();
     take_pieces(&mut state, pieces)?;
@@ -42,7 +42,7 @@ pub fn digest_pieces<G: Digest>(pieces: &[&[u8]], area: &mut [u8]) -> Result<(),
 /// Gives all bytes of a source to the state, block by block.
 /// Refuses nothing where the state stands for no more bytes than a source may have.
 fn take_source<G: Digest, S: Source>(state: &mut G, source: &S) -> Result<(), Refusal>
-    ensures { (xs : List ℕ) → G.Digest.stands state.old xs → length xs ≤ 8388608 → (result ≡ Ok tt) × G.Digest.stands state.new (xs ++ S.Source.bytes source.now) }
+    ensures { (xs : List ℕ) → G.stands state.old xs → length xs ≤ 8388608 → (result ≡ Ok tt) × G.stands state.new (xs ++ S.bytes source.now) }
 {
     let mut block = [0u8; 4096];
     let total = source.len();
@@ -58,7 +58,7 @@ fn take_source<G: Digest, S: Source>(state: &mut G, source: &S) -> Result<(), Re
 /// Writes the digest of all bytes of a source to the front of the area.
 /// Refuses only an area that is too short: no source has more bytes than a digest takes.
 pub fn digest_source<G: Digest, S: Source>(source: &S, area: &mut [u8]) -> Result<(), Refusal>
-    ensures { Wrote (G.Digest.value (S.Source.bytes source.now)) G.Digest.size area.old area.new result }
+    ensures { Wrote (G.value (S.bytes source.now)) G.size area.old area.new result }
 {
     let mut state = G::start();
     take_source(&mut state, source)?;

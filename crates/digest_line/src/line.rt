@@ -37,7 +37,7 @@ pub fn hex_line(heap: Global, front: &[u8], bytes: &[u8], end: &[u8]) -> Result<
 fn finish_into<G: Digest>(state: &G, area: &mut [u8]) -> usize
     requires { length area.old ≡ 64 }
     ensures fits { result ≤ 64 }
-    ensures digest { (xs : List ℕ) → stands state.now xs → take (result - 0) area.new ≡ value xs }
+    ensures digest { (xs : List ℕ) → G.stands state.now xs → take (result - 0) area.new ≡ G.value xs }
 {
     let _ = state.finish(area);
     G::width()
@@ -50,7 +50,7 @@ pub fn digest_line<G: Digest>(
     state: &G,
     end: &[u8],
 ) -> Result<Vec<u8>, AllocError>
-    ensures { (xs : List ℕ) → stands state.now xs → IfOk result (λ line. line.items ≡ (front.now ++ hex_of (value xs)) ++ end.now) }
+    ensures { (xs : List ℕ) → G.stands state.now xs → IfOk result (λ line. line.items ≡ (front.now ++ hex_of (G.value xs)) ++ end.now) }
 {
     let mut area = [0u8; 64];
     let width = finish_into(state, &mut area);

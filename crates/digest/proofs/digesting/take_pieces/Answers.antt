@@ -1,7 +1,7 @@
-use Rattle.std.proofs.Common.{◌≡◌, ℕ, ◌+◌, ◌<◌, ◌≤◌, List, [], ◌++◌, length, take, Ok, Err, sym, refl, ap, ◌∙◌, subst, arith, length-append, take_all, Bor, rules}
+use Rattle.std.proofs.Common.{◌≡◌, ℕ, ◌+◌, ◌<◌, List, [], ◌++◌, length, take, Err, sym, refl, ap, ◌∙◌, subst, arith, length-append, take_all, Bor}
 use Rattle.std.specs.List.{flat_map}
 use Rattle.digest.specs.declared.refusal.Refusal.TheVariants.{LongInput}
-use Rattle.std.proofs.lemmas.List.{append_assoc, append-nil, take_at}
+use Rattle.std.proofs.lemmas.List.{append_assoc, append-nil}
 use Rattle.std.proofs.lemmas.Result.{err_from_is_err_and}
 use Rattle.digest.proofs.Taking.{took_ok, took_err, joined_next, joined_next_length, joined_front, joined_front_is}
 use Rattle.digest.proofs.digesting.take_pieces.Goals as goal

@@ -1,4 +1,4 @@
-use Rattle.std.proofs.Common.{◌≡◌, ℕ, ◌+◌, ◌-◌, ◌<◌, ◌≤◌, min, List, ◌++◌, length, take, drop, sym, refl, ap, ◌∙◌, subst, arith, length-append, length-drop, length-take, take_all, take-add, rules}
+use Rattle.std.proofs.Common.{◌≡◌, ◌+◌, ◌-◌, ◌≤◌, ◌++◌, length, take, drop, sym, refl, ap, ◌∙◌, subst, arith, length-append, length-drop, length-take, take_all, take-add, rules}
 use Rattle.std.proofs.lemmas.List.{take_at, append_assoc, append-nil}
 use Rattle.digest.proofs.Taking.{took_ok, took_err}
 use Rattle.digest.proofs.digesting.take_source.Goals as goal

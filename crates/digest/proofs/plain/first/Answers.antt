@@ -1,4 +1,4 @@
-use Rattle.std.proofs.Common.{◌≡◌, ◌≤◌, length, sym, arith, take_all}
+use Rattle.std.proofs.Common.{◌≤◌, length, sym, arith, take_all}
 use Rattle.digest.proofs.plain.first.Goals as goal
 
 pub returns-else-bytes-gt-MOST : goal.returns-else-bytes-gt-MOST

@@ -1,4 +1,4 @@
-use Rattle.std.proofs.Common.{◌≡◌, ℕ, ◌+◌, ◌/◌, ◌%◌, List, [], ◌∷◌, ◌++◌, get_or, take, vec_items, sym, ap, ◌∙◌, take_all, rules}
+use Rattle.std.proofs.Common.{◌≡◌, ◌/◌, ◌%◌, [], ◌∷◌, ◌++◌, get_or, take, vec_items, sym, ap, ◌∙◌, take_all, rules}
 use Rattle.std.proofs.lemmas.List.{append_assoc}
 use Rattle.digest.proofs.Taking.{joined_next}
 use Rattle.digest_line.specs.Hex.{digit_for, hex_of}

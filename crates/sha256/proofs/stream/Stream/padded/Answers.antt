@@ -8,19 +8,19 @@ use Rattle.sha256.proofs.stream.Stream.padded.Goals as goal
 pub push-requires-in-loop-i : goal.push-requires-in-loop-i
 push-requires-in-loop-i c =
     let first = ap (λ s. s.count) c.push.ensures ∙ count_pushed c.args.self 128 in
-    let n = ap (λ s. s.count) c.loop-i.invariant ∙ count_fed (replicate c.loop-i.-i 0) c.push.new.self in
-    let m = length-replicate {A = ℕ} c.loop-i.-i 0 in
+    let n = ap (λ s. s.count) c.loop-i.invariant ∙ count_fed (replicate c.loop-i._i 0) c.push.new.self in
+    let m = length-replicate {A = ℕ} c.loop-i._i 0 in
     omega (arith, first, n, m)
 
 pub loop-i-preserved : goal.loop-i-preserved
 loop-i-preserved c =
-    c.push-in-loop-i.ensures ∙ ap (λ s. pushed s 0) c.loop-i.invariant ∙ fed_zeros c.push.new.self c.loop-i.-i
+    c.push-in-loop-i.ensures ∙ ap (λ s. pushed s 0) c.loop-i.invariant ∙ fed_zeros c.push.new.self c.loop-i._i
 
 pub feed-requires : goal.feed-requires
 feed-requires c =
     let first = ap (λ s. s.count) c.push.ensures ∙ count_pushed c.args.self 128 in
-    let n = ap (λ s. s.count) c.loop-i.invariant ∙ count_fed (replicate c.loop-i.-i 0) c.push.new.self in
-    let m = length-replicate {A = ℕ} c.loop-i.-i 0 in
+    let n = ap (λ s. s.count) c.loop-i.invariant ∙ count_fed (replicate c.loop-i._i 0) c.push.new.self in
+    let m = length-replicate {A = ℕ} c.loop-i._i 0 in
     let bits = ap length c.to_be_bytes-bits.ensures in
     omega (arith, first, n, m, bits)
 
@@ -29,7 +29,7 @@ unfolding padding
 returns c =
     let n = c.args.self.count in
     let zeros = fill_bytes_of n in
-    let all : c.loop-i.-i ≡ zeros = omega arith in
+    let all : c.loop-i._i ≡ zeros = omega arith in
     c.feed.ensures
     ∙ ap (fed c.loop-i.s) c.to_be_bytes-bits.ensures
     ∙ ap (λ s. fed s (eight (8 * n)))
