@@ -15,6 +15,7 @@ mod settings;
 mod signers;
 
 pub use attributes::read_attribute;
+pub use fields::{Entries, Number};
 pub use located::{Attribute, Content, ContentInfo, Message, Signer};
 pub use messages::read_message;
 pub use samples::samples_hold;

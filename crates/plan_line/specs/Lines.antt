@@ -1,6 +1,6 @@
 -- The line that is printed of a file.
 use Rattle.std.specs.Prelude.{◌≡◌, ℕ, List, [], ◌∷◌, ◌++◌, length}
-use Rattle.opening.specs.Outcome.{Served, Refused as RefusedBy}
+use Rattle.archive.specs.Outcome.{Served, Refused as RefusedBy}
 use Rattle.plan_line.specs.declared.line.Line.{Line}
 use Rattle.plan_line.specs.declared.line.Line.TheVariants.{Form, Refused}
 use Rattle.plan_line.specs.Words.{told_text, turned_text}

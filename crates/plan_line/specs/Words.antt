@@ -1,8 +1,8 @@
 -- The text of what is told, byte by byte.
 use Rattle.std.specs.Prelude.{ℕ, Bool, cond, List, [], ◌∷◌, ◌++◌, codes, decimal}
-use Rattle.opening.specs.declared.answers.Reading.{Reading}
-use Rattle.opening.specs.declared.refusal.Refusal.{Refusal}
-use Rattle.opening.specs.Numbers.{number_of, place_of, cause_of}
+use Rattle.archive.specs.declared.answers.Reading.{Reading}
+use Rattle.archive.specs.declared.refusal.Refusal.{Refusal}
+use Rattle.archive.specs.Numbers.{number_of, place_of, cause_of}
 use Rattle.rules.specs.declared.kinds.Form.{Form}
 use Rattle.rules.specs.declared.kinds.Form.TheVariants.{B, T, C, X, A}
 

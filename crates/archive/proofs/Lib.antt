@@ -1,0 +1,4 @@
+pub mod Forming
+pub mod Lying
+pub mod Telling
+pub mod Exact

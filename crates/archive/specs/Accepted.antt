@@ -1,0 +1,32 @@
+-- Which bytes are a file that is accepted.
+use Rattle.std.specs.Prelude.{◌≡◌, ℕ, ◌<◌, ◌≤◌, List, length, take, None}
+use Rattle.der.specs.Trees.{Valid}
+use Rattle.cms.specs.declared.settings.Settings.{Settings}
+use Rattle.cms.specs.declared.settings.SignerCount.TheVariants.{AtLeastOne}
+use Rattle.cms.specs.declared.settings.ContentForm.TheVariants.{Any}
+use Rattle.model.specs.Files.{File, file_tree, file_bytes}
+use Rattle.model.specs.Shapes.{Shape}
+use Rattle.rules.specs.Limits.{first_too_many_of}
+use Rattle.rules.specs.Attributes.{broken_rule_of}
+
+-- a file has at least one signer, and any content
+abbrev pub file_settings : Settings
+file_settings = record { signers = AtLeastOne; content = Any }
+
+-- a length that a file in a buffer may have
+pub record Fits (buffer : List ℕ) (n : ℕ) : Type 0 where
+  pub some : 0 < n
+  pub short : n ≤ 65535
+  pub there : n ≤ length buffer
+
+-- the bytes are those of a file by its form: its parts have their shape, and there are at most 32 levels
+pub record Formed (bytes : List ℕ) (f : File) : Type 0 where
+  pub shape : Shape file_settings f
+  pub valid : Valid (file_tree f) 32
+  pub bytes_are : bytes ≡ file_bytes f
+
+-- and it keeps the limits and the rules of attributes
+pub record Accepted (bytes : List ℕ) (f : File) : Type 0 where
+  pub formed : Formed bytes f
+  pub limits : first_too_many_of f ≡ None
+  pub rules : broken_rule_of f ≡ None

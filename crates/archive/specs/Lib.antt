@@ -1,0 +1,5 @@
+pub mod Numbers
+pub mod Accepted
+pub mod Outcome
+pub mod Steps
+pub mod Laws

@@ -1,0 +1,10 @@
+//! What the definitions give together.
+ghost use Rattle.archive.specs.Laws.{Exactly, OneAccepted};
+
+/// An accepted file is one, and what is answered of it is told by it.
+pub fn laws_hold() -> bool
+    ensures exactly { Exactly }
+    ensures one_accepted { OneAccepted }
+{
+    true
+}
