@@ -17,7 +17,7 @@ pub fn agrees(imprint: &[u8], digest: &[u8]) -> bool
 
 /// Whether the imprint is the digest of the input. Of more than 16,777,216 bytes no imprint is.
 pub fn is_imprint_of<G: Digest>(imprint: &[u8], input: &Input) -> bool
-    ensures { Agrees value (bytes_of input.now) imprint.now result }
+    ensures { Agrees G.value (bytes_of input.now) imprint.now result }
 {
     let mut digest = [0u8; 64];
     match digest_input::<G>(input, &mut digest) {

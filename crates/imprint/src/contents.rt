@@ -26,7 +26,7 @@ impl ContentDigest {
 
 /// The digest of a source.
 fn digest_of<G: Digest, S: Source>(source: &S) -> ContentDigest
-    ensures { digest_bytes_of result ≡ G.Digest.value (S.Source.bytes source.now) }
+    ensures { digest_bytes_of result ≡ G.value (S.bytes source.now) }
 {
     let mut bytes = [0u8; 64];
     let _ = digest_source::<G, S>(source, &mut bytes);
@@ -43,9 +43,9 @@ pub fn content_digest<G: Digest, S: Source>(
     message: &Message,
     given: Option<&S>,
 ) -> Result<ContentDigest, ContentFault>
-    ensures computed { DigestsIn G.Digest.value (content_in file.now message.now.info.content) (given_bytes S.Source.bytes given.entry) result }
+    ensures computed { DigestsIn G.value (content_in file.now message.now.info.content) (given_bytes S.bytes given.entry) result }
     ensures meaning { (settings : Settings) (levels : ℕ) (f : File) → Formed settings levels file.now f → LiesAt message.now f
-        → Digests G.Digest.value (content_for f.content (given_bytes S.Source.bytes given.entry)) (given_bytes S.Source.bytes given.entry) result }
+        → Digests G.value (content_for f.content (given_bytes S.bytes given.entry)) (given_bytes S.bytes given.entry) result }
 {
     let Ok(own) = content_of(file, message) else {
         return Err(ContentFault::LongContent);

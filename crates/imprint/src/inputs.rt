@@ -93,7 +93,7 @@ pub fn write_input(input: &Input, area: &mut [u8]) -> Result<usize, Short>
 /// Writes the digest of an imprint input to the front of the area. Refuses an area that is shorter than the digest,
 /// which stays as it was; and first, more than 16,777,216 bytes, which no imprint input of a file has.
 pub fn digest_input<G: Digest>(input: &Input, area: &mut [u8]) -> Result<(), Refusal>
-    ensures { Digested value size (bytes_of input.now) area.old area.new result }
+    ensures { Digested G.value G.size (bytes_of input.now) area.old area.new result }
 {
     let pieces = [
         input.content_type,

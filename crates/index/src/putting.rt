@@ -34,9 +34,9 @@ pub(crate) fn put_header(area: &mut [u8], at: usize, tag: u8, size: usize) -> us
 
 /// Puts the digest of the bytes behind the first `at`; answers where it ends. The bytes are not more than a digest takes.
 pub fn put_digest<G: Digest>(area: &mut [u8], at: usize, bytes: &[u8]) -> usize
-    requires { at + size ≤ length area.old }
-    ensures ends { result ≡ at + size }
-    ensures digest { length bytes.now ≤ most → Put area.old area.new at (value bytes.now) result }
+    requires { at + G.size ≤ length area.old }
+    ensures ends { result ≡ at + G.size }
+    ensures digest { length bytes.now ≤ most → Put area.old area.new at (G.value bytes.now) result }
 {
     let end = at + G::width();
     let _ = digest_bytes::<G>(bytes, &mut area[at..end]);
@@ -45,9 +45,9 @@ pub fn put_digest<G: Digest>(area: &mut [u8], at: usize, bytes: &[u8]) -> usize
 
 /// Puts the entry of an element: its digest as an octet string.
 pub(crate) fn put_entry<G: Digest>(area: &mut [u8], at: usize, element: &[u8]) -> usize
-    requires { at + framed_size_of size ≤ length area.old }
-    ensures ends { result ≡ at + framed_size_of size }
-    ensures entry { length element.now ≤ most → Put area.old area.new at (encode (entry_tree (value element.now))) result }
+    requires { at + framed_size_of G.size ≤ length area.old }
+    ensures ends { result ≡ at + framed_size_of G.size }
+    ensures entry { length element.now ≤ most → Put area.old area.new at (encode (entry_tree (G.value element.now))) result }
 {
     let body = put_header(area, at, 0x04, G::width());
     put_digest::<G>(area, body, element)

@@ -33,7 +33,7 @@ pub(crate) fn framed_size(size: usize) -> usize
 /// So many entries.
 pub(crate) fn entries_size<G: Digest>(count: usize) -> usize
     requires { count ≤ 64 }
-    ensures value { result ≡ count * framed_size_of size }
+    ensures value { result ≡ count * framed_size_of G.size }
     ensures few { result ≤ 4352 }
 {
     count * framed_size(G::width())
@@ -42,7 +42,7 @@ pub(crate) fn entries_size<G: Digest>(count: usize) -> usize
 /// A list of so many entries.
 fn list_size<G: Digest>(count: usize) -> usize
     requires { count ≤ 64 }
-    ensures value { result ≡ list_size_of size count }
+    ensures value { result ≡ list_size_of G.size count }
     ensures few { result ≤ 4356 }
 {
     framed_size(entries_size::<G>(count))
@@ -67,7 +67,7 @@ pub(crate) fn contents_size<G: Digest>(
     attributes: usize,
 ) -> usize
     requires { (certificates ≤ 64) × ((revocations ≤ 64) × (attributes ≤ 64)) }
-    ensures value { result ≡ contents_size_of size oid certificates revocations attributes }
+    ensures value { result ≡ contents_size_of G.size G.oid certificates revocations attributes }
     ensures few { result ≤ 13092 }
 {
     let lists = list_size::<G>(certificates)
@@ -78,10 +78,10 @@ pub(crate) fn contents_size<G: Digest>(
 /// How many bytes the index has of so many elements in each list.
 pub fn index_length<G: Digest>(certificates: usize, revocations: usize, attributes: usize) -> usize
     requires { (certificates ≤ 64) × ((revocations ≤ 64) × (attributes ≤ 64)) }
-    ensures computed { result ≡ index_size size oid certificates revocations attributes }
+    ensures computed { result ≡ index_size G.size G.oid certificates revocations attributes }
     ensures meaning { (elements : ListName → List (List ℕ))
         → length (elements Certificates) ≡ certificates → length (elements Revocations) ≡ revocations → length (elements Attributes) ≡ attributes
-        → result ≡ length (index_bytes (index_of value oid elements)) }
+        → result ≡ length (index_bytes (index_of G.value G.oid elements)) }
 {
     framed_size(contents_size::<G>(certificates, revocations, attributes))
 }

@@ -18,9 +18,9 @@ use digest::interface::Digest;
 
 /// Puts one entry for each element.
 fn put_entries<G: Digest>(file: &[u8], elements: Elements, area: &mut [u8], at: usize) -> usize
-    requires { at + elements.count * framed_size_of size ≤ length area.old }
-    ensures few { result ≤ at + elements.count * framed_size_of size }
-    ensures entries { (ts : List Tree) → Stand file.now elements ts → Put area.old area.new at (entries_bytes value ts) result }
+    requires { at + elements.count * framed_size_of G.size ≤ length area.old }
+    ensures few { result ≤ at + elements.count * framed_size_of G.size }
+    ensures entries { (ts : List Tree) → Stand file.now elements ts → Put area.old area.new at (entries_bytes G.value ts) result }
 {
     let mut reader = Reader {
         bytes: file,
@@ -39,9 +39,9 @@ fn put_entries<G: Digest>(file: &[u8], elements: Elements, area: &mut [u8], at: 
 
 /// Puts a list: one entry for each element.
 fn put_list<G: Digest>(file: &[u8], elements: Elements, area: &mut [u8], at: usize) -> usize
-    requires { (elements.count ≤ 64) × (at + list_size_of size elements.count ≤ length area.old) }
-    ensures few { result ≤ at + list_size_of size elements.count }
-    ensures list { (ts : List Tree) → Stand file.now elements ts → Put area.old area.new at (encode (list_tree value ts)) result }
+    requires { (elements.count ≤ 64) × (at + list_size_of G.size elements.count ≤ length area.old) }
+    ensures few { result ≤ at + list_size_of G.size elements.count }
+    ensures list { (ts : List Tree) → Stand file.now elements ts → Put area.old area.new at (encode (list_tree G.value ts)) result }
 {
     let body = put_header(area, at, 0x30, entries_size::<G>(elements.count));
     put_entries::<G>(file, elements, area, body)
@@ -63,8 +63,8 @@ fn put_algorithm(area: &mut [u8], at: usize, name: &[u8]) -> usize
 /// Puts the three lists.
 fn put_lists<G: Digest>(file: &[u8], lists: ElementLists, area: &mut [u8], at: usize) -> usize
     requires few { (lists.certificates.count ≤ 64) × ((lists.revocations.count ≤ 64) × (lists.attributes.count ≤ 64)) }
-    requires room { at + (list_size_of size lists.certificates.count + (list_size_of size lists.revocations.count + list_size_of size lists.attributes.count)) ≤ length area.old }
-    ensures { (trees : ListName → List Tree) → StandLists file.now lists trees → Put area.old area.new at (lists_bytes value trees) result }
+    requires room { at + (list_size_of G.size lists.certificates.count + (list_size_of G.size lists.revocations.count + list_size_of G.size lists.attributes.count)) ≤ length area.old }
+    ensures { (trees : ListName → List Tree) → StandLists file.now lists trees → Put area.old area.new at (lists_bytes G.value trees) result }
 {
     let revocations = put_list::<G>(file, lists.certificates, area, at);
     let attributes = put_list::<G>(file, lists.revocations, area, revocations);
@@ -75,9 +75,9 @@ fn put_lists<G: Digest>(file: &[u8], lists: ElementLists, area: &mut [u8], at: u
 /// as many as `index_length` tells, for which the area has room. What is behind them stays.
 pub fn write_index<G: Digest>(file: &[u8], lists: ElementLists, area: &mut [u8]) -> usize
     requires few { (lists.certificates.count ≤ 64) × ((lists.revocations.count ≤ 64) × (lists.attributes.count ≤ 64)) }
-    requires room { index_size size oid lists.certificates.count lists.revocations.count lists.attributes.count ≤ length area.old }
+    requires room { index_size G.size G.oid lists.certificates.count lists.revocations.count lists.attributes.count ≤ length area.old }
     ensures { (trees : ListName → List Tree) → StandLists file.now lists trees
-        → Written (index_bytes (index_of value oid (encoded_by trees))) area.old area.new result }
+        → Written (index_bytes (index_of G.value G.oid (encoded_by trees))) area.old area.new result }
 {
     let contents = contents_size::<G>(
         lists.certificates.count,

@@ -43,7 +43,7 @@ fn find_in_list<G: Digest>(
 ) -> Option<Unmatched>
     requires { elements.count ≤ 64 }
     ensures { (ts us : List Tree) → Stand file.now elements ts → Stand index.now entries us
-        → result ≡ in_list list (first_missing_of (map value (map encode ts)) 0 (map body_of us)) }
+        → result ≡ in_list list (first_missing_of (map G.value (map encode ts)) 0 (map body_of us)) }
 {
     let digests = Digests::of::<G>(file, elements);
     match first_missing(&digests, index, entries) {
@@ -62,7 +62,7 @@ pub fn first_unmatched<G: Digest>(
 ) -> Option<Unmatched>
     requires { (lists.certificates.count ≤ 64) × ((lists.revocations.count ≤ 64) × (lists.attributes.count ≤ 64)) }
     ensures { (trees : ListName → List Tree) (x : Index) → StandLists file.now lists trees → StandLists index.now entries (entry_trees x)
-        → result ≡ first_unmatched_of value (encoded_by trees) x }
+        → result ≡ first_unmatched_of G.value (encoded_by trees) x }
 {
     if let Some(unmatched) = find_in_list::<G>(
         file,

@@ -38,7 +38,7 @@ fn has_entry(index: &[u8], entries: Elements, wanted: &[u8]) -> bool
 /// The side of an element: its digest is made once, and compared with each entry.
 fn side_of<G: Digest>(element: &[u8], index: &[u8], entries: Elements) -> Side
     ensures { (us : List Tree) → Stand index.now entries us → length element.now ≤ most
-        → result ≡ side_for (map body_of us) (value element.now) }
+        → result ≡ side_for (map body_of us) (G.value element.now) }
 {
     let mut digest = [0u8; 64];
     let end = put_digest::<G>(&mut digest, 0, element);
@@ -62,7 +62,7 @@ fn put_rows<G: Digest>(
     requires { at + elements.count ≤ length table.old }
     ensures few { result ≤ at + elements.count }
     ensures rows { (ts us : List Tree) → Stand file.now elements ts → Stand index.now entries us
-        → Put table.old table.new at (rows_from value list (map body_of us) elements.at ts) result }
+        → Put table.old table.new at (rows_from G.value list (map body_of us) elements.at ts) result }
 {
     let mut reader = Reader {
         bytes: file,
@@ -120,7 +120,7 @@ pub fn fill_rows<G: Digest>(
 ) -> Tally
     requires { lists.certificates.count + (lists.revocations.count + lists.attributes.count) ≤ length table.old }
     ensures { (trees : ListName → List Tree) (x : Index) → StandLists file.now lists trees → StandLists index.now entries (entry_trees x)
-        → Surveyed (rows_of value lists trees x) table.old table.new result }
+        → Surveyed (rows_of G.value lists trees x) table.old table.new result }
 {
     let revocations = put_rows::<G>(
         file,

@@ -13,8 +13,8 @@ use index::{Elements, put_digest};
 
 /// Puts the digest of each element, one behind another from the area's front on.
 fn put_digests<G: Digest>(file: &[u8], elements: Elements, area: &mut [u8]) -> usize
-    requires { elements.count * size ≤ length area.old }
-    ensures { (ts : List Tree) → Stand file.now elements ts → Put area.old area.new 0 (digests_bytes value ts) result }
+    requires { elements.count * G.size ≤ length area.old }
+    ensures { (ts : List Tree) → Stand file.now elements ts → Put area.old area.new 0 (digests_bytes G.value ts) result }
 {
     let mut reader = Reader {
         bytes: file,
@@ -58,7 +58,7 @@ impl Digests {
     /// The digests of the elements that stand there, at most 64.
     pub fn of<G: Digest>(file: &[u8], elements: Elements) -> Digests
         requires { elements.count ≤ 64 }
-        ensures { (ts : List Tree) → Stand file.now elements ts → digests_in result ≡ map value (map encode ts) }
+        ensures { (ts : List Tree) → Stand file.now elements ts → digests_in result ≡ map G.value (map encode ts) }
     {
         let mut bytes = [0u8; 4096];
         put_digests::<G>(file, elements, &mut bytes);
