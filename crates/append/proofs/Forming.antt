@@ -2,7 +2,7 @@
 use Rattle.std.proofs.Common.{◌≡◌, ℕ, zero, suc, ◌-◌, ◌<◌, ◌≤◌, Bool, true, List, [], ◌∷◌, ◌++◌, length, Some, None, Option, ap, arith, lit<}
 use Rattle.std.proofs.ByRecursion.{All-append}
 use Rattle.std.proofs.lemmas.List.{length-append}
-use Rattle.std.specs.List.{AllByRecursion as All}
+use Rattle.std.specs.List.{AllByRecursion}
 use Rattle.der.specs.Trees.{Tree, leaf, node, Forest, none, more, OneByteTag, Constructed, Valid, Valids, encode, encodes, header_bytes, tag_of}
 use Rattle.fields.proofs.Tags.{field_zero, field_one}
 use Rattle.cms.specs.Records.{certificate_tags, revocation_tags}
@@ -104,11 +104,11 @@ tags_longer : (tags : ℕ → Bool) (o : Option (List Tree)) (new : List Tree) �
 tags_longer tags None new k l = l
 tags_longer tags (Some ts) new k l = All-append (λ t. tags (tag_of t) ≡ true) ts new k l
 
-unsigned_longer : (o : Option (List Attribute)) (new : List Attribute) → IfThere UnsignedShape o → All AttributeShape new → 0 < length new → UnsignedShape (given o ++ new)
+unsigned_longer : (o : Option (List Attribute)) (new : List Attribute) → IfThere UnsignedShape o → AllByRecursion AttributeShape new → 0 < length new → UnsignedShape (given o ++ new)
 unsigned_longer None new k l m = record { each = l; least = m }
 unsigned_longer (Some ms) new k l m = record { each = All-append AttributeShape ms new k.each l; least = omega (arith, k.least, length-append ms new) }
 
-signers_shape : (n : ℕ) (ss : List Signer) (new : List Attribute) → All SignerShape ss → All AttributeShape new → 0 < length new → All SignerShape (signers_with n new ss)
+signers_shape : (n : ℕ) (ss : List Signer) (new : List Attribute) → AllByRecursion SignerShape ss → AllByRecursion AttributeShape new → 0 < length new → AllByRecursion SignerShape (signers_with n new ss)
 signers_shape n [] new k l m = tt
 signers_shape zero (s ∷ ss) new (k, ks) l m = (record { signed = k.signed; unsigned = unsigned_longer s.unsigned new k.unsigned l m }, ks)
 signers_shape (suc n) (s ∷ ss) new (k, ks) l m = (k, signers_shape n ss new ks l m)

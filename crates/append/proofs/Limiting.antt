@@ -1,6 +1,6 @@
 -- Limits are kept where the list that grew keeps its limit.
 use Rattle.std.proofs.Common.{◌≡◌, ℕ, zero, suc, ◌≤◌, List, [], ◌∷◌, ◌++◌, length, ap, arith}
-use Rattle.std.specs.List.{AllByRecursion as All}
+use Rattle.std.specs.List.{AllByRecursion}
 use Rattle.model.specs.Parts.{Attribute, Signer}
 use Rattle.rules.specs.Limits.{most_entries}
 use Rattle.limits.specs.Laws.{SignerKeeps}
@@ -13,7 +13,7 @@ same_count n new [] = omega arith
 same_count zero new (s ∷ ss) = omega arith
 same_count (suc n) new (s ∷ ss) = ap suc (same_count n new ss)
 
-signers_keep : (n : ℕ) (new : List Attribute) (ss : List Signer) → All SignerKeeps ss → length (unsigned_of n ss ++ new) ≤ most_entries → All SignerKeeps (signers_with n new ss)
+signers_keep : (n : ℕ) (new : List Attribute) (ss : List Signer) → AllByRecursion SignerKeeps ss → length (unsigned_of n ss ++ new) ≤ most_entries → AllByRecursion SignerKeeps (signers_with n new ss)
 signers_keep n new [] k l = tt
 signers_keep zero new (s ∷ ss) (k, ks) l = (record { signed = k.signed; unsigned = l }, ks)
 signers_keep (suc n) new (s ∷ ss) (k, ks) l = (k, signers_keep n new ss ks l)

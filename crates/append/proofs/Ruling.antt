@@ -2,7 +2,7 @@
 use Rattle.std.proofs.Common.{◌≡◌, ℕ, zero, suc, Bool, true, false, cond, List, [], ◌∷◌, ◌++◌, Some, None, Option, refl, ap, ◌∙◌, arith}
 use Rattle.std.proofs.ByRecursion.{All-append}
 use Rattle.std.proofs.lemmas.Bool.{cond-false}
-use Rattle.std.specs.List.{AllByRecursion as All}
+use Rattle.std.specs.List.{AllByRecursion}
 use Rattle.der.specs.Trees.{Tree}
 use Rattle.fields.specs.Rules.{or_else}
 use Rattle.model.specs.Parts.{Attribute, attribute_tree, signed_tree, Signer, signer_tree}
@@ -34,13 +34,13 @@ faulty_moved faulty before p q (a ∷ rest) e =
     cond-false (faulty before a) (Some q) _ ok ∙ faulty_moved faulty (before ++ a ∷ []) (behind p (attribute_tree a)) (behind q (attribute_tree a)) rest none
 
 -- no attribute passes the test, wherever they stand
-with_none : (test : Attribute → Bool) (p : ℕ) (ms : List Attribute) → first_with test p ms ≡ None → All (λ a. test a ≡ false) ms
+with_none : (test : Attribute → Bool) (p : ℕ) (ms : List Attribute) → first_with test p ms ≡ None → AllByRecursion (λ a. test a ≡ false) ms
 with_none test p [] e = tt
 with_none test p (a ∷ rest) e =
     let (ok, none) = passed (test a) p _ e in
     (ok, with_none test (behind p (attribute_tree a)) rest none)
 
-none_with : (test : Attribute → Bool) (p : ℕ) (ms : List Attribute) → All (λ a. test a ≡ false) ms → first_with test p ms ≡ None
+none_with : (test : Attribute → Bool) (p : ℕ) (ms : List Attribute) → AllByRecursion (λ a. test a ≡ false) ms → first_with test p ms ≡ None
 none_with test p [] k = refl
 none_with test p (a ∷ rest) (ok, k) = cond-false (test a) (Some p) _ ok ∙ none_with test (behind p (attribute_tree a)) rest k
 
@@ -48,7 +48,7 @@ misplaced_moved : (p q : ℕ) (u : Option (List Attribute)) → first_misplaced_
 misplaced_moved p q None e = refl
 misplaced_moved p q (Some ms) e = none_with misplaced _ ms (with_none misplaced _ ms e)
 
-misplaced_longer : (p q : ℕ) (u : Option (List Attribute)) (new : List Attribute) → first_misplaced_of p u ≡ None → All (λ a. misplaced a ≡ false) new →
+misplaced_longer : (p q : ℕ) (u : Option (List Attribute)) (new : List Attribute) → first_misplaced_of p u ≡ None → AllByRecursion (λ a. misplaced a ≡ false) new →
     first_misplaced_of q (Some (given u ++ new)) ≡ None
 misplaced_longer p q None new e k = none_with misplaced _ new k
 misplaced_longer p q (Some ms) new e k = none_with misplaced _ (ms ++ new) (All-append (λ a. misplaced a ≡ false) ms new (with_none misplaced _ ms e) k)
@@ -64,7 +64,7 @@ module _ (t : Tree) (p q : ℕ) (s : Signer) (e : broken_told_by t p s ≡ None)
   signer_moved : broken_told_by t q s ≡ None
   signer_moved = cond-false (lacks s.signed) (Some q) _ kept.0 ∙ neither _ _ kept.1 (misplaced_moved _ _ s.unsigned kept.2)
 
-  signer_longer : (new : List Attribute) → All (λ a. misplaced a ≡ false) new → broken_told_by t q (signer_with new s) ≡ None
+  signer_longer : (new : List Attribute) → AllByRecursion (λ a. misplaced a ≡ false) new → broken_told_by t q (signer_with new s) ≡ None
   signer_longer new k =
       let (ok, signed, unsigned) = kept in
       cond-false (lacks s.signed) (Some q) _ ok
@@ -76,7 +76,7 @@ broken_moved t p q (s ∷ ss) e =
     let (first, rest) = both (broken_told_by t p s) (first_broken_of t (behind p (signer_tree s)) ss) e in
     neither _ _ (signer_moved t p q s first) (broken_moved t (behind p (signer_tree s)) (behind q (signer_tree s)) ss rest)
 
-broken_longer : (t : Tree) (n p q : ℕ) (ss : List Signer) (new : List Attribute) → first_broken_of t p ss ≡ None → All (λ a. misplaced a ≡ false) new →
+broken_longer : (t : Tree) (n p q : ℕ) (ss : List Signer) (new : List Attribute) → first_broken_of t p ss ≡ None → AllByRecursion (λ a. misplaced a ≡ false) new →
     first_broken_of t q (signers_with n new ss) ≡ None
 broken_longer t n p q [] new e k = refl
 broken_longer t zero p q (s ∷ ss) new e k =

@@ -1,6 +1,6 @@
 -- What stays true of a file when its lists grow.
 use Rattle.std.specs.Prelude.{◌≡◌, ℕ, zero, suc, ◌<◌, ◌≤◌, false, List, [], ◌∷◌, ◌++◌, length, None}
-use Rattle.std.specs.List.{AllByRecursion as All}
+use Rattle.std.specs.List.{AllByRecursion}
 use Rattle.der.specs.Trees.{Tree, Valid, Valids}
 use Rattle.cms.specs.Records.{certificate_tags, revocation_tags}
 use Rattle.cms.specs.declared.settings.Settings.{Settings}
@@ -28,7 +28,7 @@ pub record FormKept : Type 0 where
       length (file_bytes (with_certificates new f)) ≤ 65535 → Formed settings (with_certificates new f)
   pub revocations : (settings : Settings) (f : File) (new : List Tree) → Formed settings f → AllowedTags revocation_tags new → Valids (row new) 28 →
       length (file_bytes (with_revocations new f)) ≤ 65535 → Formed settings (with_revocations new f)
-  pub attributes : (settings : Settings) (f : File) (n : ℕ) (new : List Attribute) → Formed settings f → All AttributeShape new → 0 < length new →
+  pub attributes : (settings : Settings) (f : File) (n : ℕ) (new : List Attribute) → Formed settings f → AllByRecursion AttributeShape new → 0 < length new →
       Valids (row_of attribute_tree new) 26 → length (file_bytes (with_attributes n new f)) ≤ 65535 → Formed settings (with_attributes n new f)
 
 -- the limits: where nothing was one too many, nothing is, if the list that grew keeps its limit
@@ -42,4 +42,4 @@ pub record LimitsKept : Type 0 where
 pub record RulesKept : Type 0 where
   pub certificates : (f : File) (new : List Tree) → broken_rule_of f ≡ None → broken_rule_of (with_certificates new f) ≡ None
   pub revocations : (f : File) (new : List Tree) → broken_rule_of f ≡ None → broken_rule_of (with_revocations new f) ≡ None
-  pub attributes : (f : File) (n : ℕ) (new : List Attribute) → broken_rule_of f ≡ None → All (λ a. misplaced a ≡ false) new → broken_rule_of (with_attributes n new f) ≡ None
+  pub attributes : (f : File) (n : ℕ) (new : List Attribute) → broken_rule_of f ≡ None → AllByRecursion (λ a. misplaced a ≡ false) new → broken_rule_of (with_attributes n new f) ≡ None
