@@ -1,7 +1,7 @@
 -- The composed attribute carries the stamp, and may stand in a file.
 use Rattle.std.proofs.Common.{◌≡◌, ℕ, ◌+◌, ◌-◌, ◌<◌, ◌≤◌, List, [], ◌∷◌, ◌++◌, length, Some, None, Option, sym, refl, ap, ◌∙◌, subst, arith}
 use lib.Bits.{bit_and}
-use Rattle.std.specs.List.{AllByRecursion as All}
+use Rattle.std.specs.List.{AllByRecursion}
 use Rattle.std.proofs.lemmas.List.{length-append}
 use Rattle.der.specs.Trees.{Tree, leaf, node, Forest, none, more, length_bytes, framed, encode, encodes, OneByteTag, Constructed, Valid, Valids}
 use Rattle.fields.proofs.Tags.{seq, set, field_zero, field_one}
@@ -23,8 +23,8 @@ use Rattle.compose.specs.Composed.{signer_with, token_with, stamp_of, stamp_attr
 use Rattle.compose.specs.Laws.{ComposedCarries, ComposedValid}
 
 -- what is known of the only signer of a list
-only : (P : Signer → Type 0) (ss : List Signer) (s : Signer) → ss ≡ s ∷ [] → All P ss → P s
-only P ss s e a = (subst (λ (y : List Signer). All P y) e a).0
+only : (P : Signer → Type 0) (ss : List Signer) (s : Signer) → ss ≡ s ∷ [] → AllByRecursion P ss → P s
+only P ss s e a = (subst (λ (y : List Signer). AllByRecursion P y) e a).0
 
 signer_shape : (s : Signer) (x : Index) → SignerShape s → SignerShape (signer_with x s)
 signer_shape s x k = record { signed = k.signed; unsigned = record { each = (omega arith, tt); least = omega arith } }

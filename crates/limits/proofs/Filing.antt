@@ -1,7 +1,7 @@
 -- The first element too many that the record of a file leads to is that of the file.
 use Rattle.std.proofs.Common.{◌≡◌, ℕ, ◌+◌, ◌-◌, List, [], length, take, drop, Some, None, Option, sym, refl, ap, ◌∙◌, arith}
 use Rattle.std.proofs.lemmas.List.{take_rest, append-nil}
-use Rattle.std.specs.List.{AllByRecursion as All}
+use Rattle.std.specs.List.{AllByRecursion}
 use Rattle.der.specs.Spans.{part}
 use Rattle.der.specs.Trees.{Tree, node, Forest, none, more, Valid, encode}
 use Rattle.cms.specs.declared.settings.Settings.{Settings}
@@ -45,7 +45,7 @@ signers_said at ss = too_many_signers most_signers (inside at (signers_field ss)
 abbrev revocations_said : ℕ → Option (List Tree) → List Signer → Option ℕ
 revocations_said at rs ss = or_else (too_many_in (λ t. t) revocations_tree at rs) (signers_said (skip_maybe revocations_tree at rs) ss)
 
-module _ (levels : ℕ) (file : List ℕ) (end : ℕ) (ss : List Signer) (keep : All SignerShape ss) where
+module _ (levels : ℕ) (file : List ℕ) (end : ℕ) (ss : List Signer) (keep : AllByRecursion SignerShape ss) where
   signers_read_lem : (at : ℕ) → At levels file at end (more (signers_field ss) none) → signers_read file (record { at = at; tree = signers_field ss }) ≡ signers_said at ss
   signers_read_lem at a = signers_past_lem (levels - 1) file _ most_signers _ ss (within_at a set) keep
 

@@ -1,6 +1,6 @@
 -- Nothing is one too many exactly when every list keeps its limit.
 use Rattle.std.proofs.Common.{◌≡◌, ℕ, zero, suc, ◌≤◌, List, [], ◌∷◌, length, Some, None, Option, refl, ap, ◌∙◌, arith}
-use Rattle.std.specs.List.{AllByRecursion as All}
+use Rattle.std.specs.List.{AllByRecursion}
 use Rattle.der.specs.Trees.{Tree}
 use Rattle.fields.specs.Rules.{or_else}
 use Rattle.model.specs.Parts.{row_of, attribute_tree, signed_tree, unsigned_tree, Signer, signer_tree}
@@ -45,7 +45,7 @@ signer_keeps p s e =
 signer_none : (p : ℕ) (s : Signer) → SignerKeeps s → too_many_attributes p s ≡ None
 signer_none p s k = both_none _ _ (list_none attribute_tree signed_tree (signed_at p s) (Some s.signed) k.signed) (list_none attribute_tree unsigned_tree (unsigned_at p s) s.unsigned k.unsigned)
 
-signers_keep : (n p : ℕ) (ss : List Signer) → too_many_signers n p ss ≡ None → (length ss ≤ n) × All SignerKeeps ss
+signers_keep : (n p : ℕ) (ss : List Signer) → too_many_signers n p ss ≡ None → (length ss ≤ n) × AllByRecursion SignerKeeps ss
 signers_keep n p [] e = (omega arith, tt)
 signers_keep zero p (s ∷ ss) e = absurd (let z : ◌≡◌ {A = ℕ} 0 1 = cc in omega arith)
 signers_keep (suc n) p (s ∷ ss) e =
@@ -53,7 +53,7 @@ signers_keep (suc n) p (s ∷ ss) e =
     let (l, all) = signers_keep n (behind p (signer_tree s)) ss rest in
     (omega arith, (signer_keeps p s first, all))
 
-signers_none : (n p : ℕ) (ss : List Signer) → length ss ≤ n → All SignerKeeps ss → too_many_signers n p ss ≡ None
+signers_none : (n p : ℕ) (ss : List Signer) → length ss ≤ n → AllByRecursion SignerKeeps ss → too_many_signers n p ss ≡ None
 signers_none n p [] l a = refl
 signers_none zero p (s ∷ ss) l a = absurd (omega arith)
 signers_none (suc n) p (s ∷ ss) l (k, a) = both_none _ _ (signer_none p s k) (signers_none n _ ss (omega arith) a)

@@ -1,6 +1,6 @@
 -- The first element too many among signers that are read is that among the signers of a file.
 use Rattle.std.proofs.Common.{◌≡◌, ℕ, zero, suc, ◌+◌, ◌-◌, List, [], ◌∷◌, Some, None, Ok, Err, Option, Result, sym, refl, ap, ◌∙◌, arith}
-use Rattle.std.specs.List.{AllByRecursion as All}
+use Rattle.std.specs.List.{AllByRecursion}
 use Rattle.der.specs.declared.span.Span.{Span}
 use Rattle.der.specs.Trees.{Tree, Forest, none, more, Constructed, tag_of}
 use Rattle.fields.specs.Placed.{Placed, placed_from, if_first, mapped, entries_for}
@@ -58,7 +58,7 @@ signer_there : (levels : ℕ) (file : List ℕ) (at end : ℕ) (s : Signer) (ts 
 signer_there levels file at end s ts a k =
     unbroken (signer_of file at end) _ (link_signer_of levels file at end _ a ∙ ap (λ (o : Option ℕ). or_else o None) (signer_kept _ s k)) (signer_of_lies levels file at end _ a)
 
-pub signers_past_lem : (levels : ℕ) (file : List ℕ) (end n at : ℕ) (ss : List Signer) → At levels file at end (row_of signer_tree ss) → All SignerShape ss →
+pub signers_past_lem : (levels : ℕ) (file : List ℕ) (end n at : ℕ) (ss : List Signer) → At levels file at end (row_of signer_tree ss) → AllByRecursion SignerShape ss →
     signers_past n file at end ≡ too_many_signers n at ss
 signers_past_lem levels file end zero at [] a k = none_leaves levels file at end a
 signers_past_lem levels file end zero at (s ∷ ss) a k = more_leaves levels file at end _ _ a

@@ -1,6 +1,6 @@
 -- The law of the limits: nothing is one too many exactly when every list keeps its limit.
 use Rattle.std.specs.Prelude.{◌≡◌, ◌≤◌, List, length, None}
-use Rattle.std.specs.List.{AllByRecursion as All}
+use Rattle.std.specs.List.{AllByRecursion}
 use Rattle.model.specs.Parts.{Signer}
 use Rattle.model.specs.Files.{File}
 use Rattle.model.specs.Shapes.{IfThere}
@@ -20,7 +20,7 @@ pub record Keeps (f : File) : Type 0 where
   pub certificates : IfThere Short f.certificates
   pub revocations : IfThere Short f.revocations
   pub signers : length f.signers ≤ most_signers
-  pub each : All SignerKeeps f.signers
+  pub each : AllByRecursion SignerKeeps f.signers
 
 abbrev pub NoneTooMany : Type 0
 NoneTooMany = (f : File) → (first_too_many_of f ≡ None → Keeps f) × (Keeps f → first_too_many_of f ≡ None)

@@ -3,7 +3,7 @@ use Rattle.std.proofs.Common.{◌≡◌, ℕ, zero, suc, ◌+◌, ◌<◌, Bool,
 use Rattle.std.proofs.ByRecursion.{has_append_right}
 use Rattle.std.proofs.lemmas.Slice.Eq.{bytes_eq-Decides}
 use Rattle.std.proofs.lemmas.Bool.{cond-true}
-use Rattle.std.specs.List.{ContainsAt as Has, AllByRecursion as All, slice_get}
+use Rattle.std.specs.List.{ContainsAt as Has, AllByRecursion, slice_get}
 use Rattle.std.specs.Str.{bytes_eq}
 use Rattle.stamp_model.specs.declared.lists.ListName.{ListName}
 use Rattle.stamp_model.specs.declared.lists.ListName.TheVariants.{Certificates, Revocations, Attributes}
@@ -40,16 +40,16 @@ has_holds (x ∷ xs) e h = by (bytes_eq x e) refl (has_holds xs e) (has_cases x 
 
 -- none is missing exactly when all are there
 module _ (digests : List (List ℕ)) where
-  none_all : (n : ℕ) (es : List (List ℕ)) → first_missing_of digests n es ≡ None → All (Has digests) es
+  none_all : (n : ℕ) (es : List (List ℕ)) → first_missing_of digests n es ≡ None → AllByRecursion (Has digests) es
   none_all n [] q = tt
   none_all n (e ∷ es) q = by (holds digests e) refl (none_all (n + 1) es) q
     where
-      by : (b : Bool) → holds digests e ≡ b → (first_missing_of digests (n + 1) es ≡ None → All (Has digests) es) → cond b (first_missing_of digests (n + 1) es) (Some n) ≡ None →
-          Has digests e × All (Has digests) es
+      by : (b : Bool) → holds digests e ≡ b → (first_missing_of digests (n + 1) es ≡ None → AllByRecursion (Has digests) es) → cond b (first_missing_of digests (n + 1) es) (Some n) ≡ None →
+          Has digests e × AllByRecursion (Has digests) es
       by true s f q = (holds_has digests e s, f q)
       by false s f q = absurd (let z : ◌≡◌ {A = ℕ} 0 1 = cc in omega arith)
 
-  all_none : (n : ℕ) (es : List (List ℕ)) → All (Has digests) es → first_missing_of digests n es ≡ None
+  all_none : (n : ℕ) (es : List (List ℕ)) → AllByRecursion (Has digests) es → first_missing_of digests n es ≡ None
   all_none n [] a = refl
   all_none n (e ∷ es) (h, a) = cond-true (holds digests e) _ _ (has_holds digests e h) ∙ all_none (n + 1) es a
 
@@ -60,7 +60,7 @@ module _ (digests : List (List ℕ)) where
     pub entry : List ℕ
     pub there : slice_get es place ≡ Some entry
     pub absent : Has digests entry → ⊥
-    pub before : All (Has digests) (take place es)
+    pub before : AllByRecursion (Has digests) (take place es)
 
   missing_is : (n : ℕ) (es : List (List ℕ)) (m : ℕ) → first_missing_of digests n es ≡ Some m → Missing n es m
   missing_is n [] m q = absurd (let z : ◌≡◌ {A = ℕ} 0 1 = cc in omega arith)
@@ -121,7 +121,7 @@ module _ (D : List ℕ → List ℕ) (elements : ListName → List (List ℕ)) (
             entry = m.entry;
             there = ap (slice_get (entries_for x list)) e ∙ m.there;
             unmatched = m.absent;
-            before = subst (λ (k : ℕ). All (Matched D (elements list)) (take k (entries_for x list))) (sym e) m.before;
+            before = subst (λ (k : ℕ). AllByRecursion (Matched D (elements list)) (take k (entries_for x list))) (sym e) m.before;
             earlier = before;
           })
 

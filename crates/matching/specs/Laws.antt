@@ -1,6 +1,6 @@
 -- What the definitions give together.
 use Rattle.std.specs.Prelude.{◌≡◌, ℕ, ◌+◌, ◌<◌, List, length, take, Some, None}
-use Rattle.std.specs.List.{ContainsAt as Has, AllByRecursion as All, slice_get}
+use Rattle.std.specs.List.{ContainsAt as Has, AllByRecursion, slice_get}
 use Rattle.der.specs.Trees.{Tree}
 use Rattle.stamp_model.specs.declared.lists.ListName.{ListName}
 use Rattle.stamp_model.specs.declared.lists.ListName.TheVariants.{Certificates, Revocations, Attributes}
@@ -16,7 +16,7 @@ use Rattle.matching.specs.Unmatched.{first_unmatched_of}
 
 -- every entry of a list has its element there
 abbrev pub AllMatched : (List ℕ → List ℕ) → (ListName → List (List ℕ)) → Index → ListName → Type 0
-AllMatched D elements x list = All (Matched D (elements list)) (entries_for x list)
+AllMatched D elements x list = AllByRecursion (Matched D (elements list)) (entries_for x list)
 
 -- no entry is unmatched exactly when each has its element
 abbrev pub NoneUnmatched : Type 0
@@ -29,7 +29,7 @@ pub record IsFirst (D : List ℕ → List ℕ) (elements : ListName → List (Li
   pub entry : List ℕ
   pub there : slice_get (entries_for x u.list) u.entry ≡ Some entry
   pub unmatched : Matched D (elements u.list) entry → ⊥
-  pub before : All (Matched D (elements u.list)) (take u.entry (entries_for x u.list))
+  pub before : AllByRecursion (Matched D (elements u.list)) (take u.entry (entries_for x u.list))
   pub earlier : (list : ListName) → list_number list < list_number u.list → AllMatched D elements x list
 
 abbrev pub FoundIsFirst : Type 0

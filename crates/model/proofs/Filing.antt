@@ -3,7 +3,7 @@ use Rattle.std.proofs.Common.{◌≡◌, ℕ, ◌+◌, ◌-◌, ◌<◌, Bool, t
 use lib.Bits.{bit_and}
 use Rattle.std.proofs.lemmas.Slice.Eq.{bytes_eq-Decides}
 use Rattle.std.proofs.lemmas.Bool.{eqb-true}
-use Rattle.std.specs.List.{AllByRecursion as All}
+use Rattle.std.specs.List.{AllByRecursion}
 use Rattle.std.specs.Str.{bytes_eq}
 use Rattle.der.specs.Trees.{Tree, leaf, node, Forest, none, more, Valid, Valids, tag_of}
 use Rattle.fields.specs.Reads.{is}
@@ -138,7 +138,7 @@ list_maybe tag tags next levels p ts v c e = by (node_maybe tag (list tags free)
 
 -- signers, as many as the setting wants
 signers_of_lem : (count : SignerCount) (levels p : ℕ) (ts : Forest) → Valids ts levels → signers_by count p ts ≡ None →
-    (ss : List Signer) × All SignerShape ss × SignersShape count ss × (ts ≡ row_of signer_tree ss)
+    (ss : List Signer) × AllByRecursion SignerShape ss × SignersShape count ss × (ts ≡ row_of signer_tree ss)
 signers_of_lem AtLeastOne levels p ts v e = some_entries signer_tree SignerShape (is 0x30) signer levels (signer_of_lem levels) p ts v e
 signers_of_lem ExactlyOne levels p ts v e =
     let f = field_none (is 0x30) signer nothing p ts e in

@@ -1,6 +1,6 @@
 -- A file of the shape has no break.
 use Rattle.std.proofs.Common.{◌≡◌, ℕ, ◌+◌, ◌-◌, ◌<◌, Bool, true, false, cond, ◌||◌, eqb, List, [], ◌∷◌, length, Some, None, Option, sym, refl, ap, ◌∙◌, subst, arith}
-use Rattle.std.specs.List.{AllByRecursion as All}
+use Rattle.std.specs.List.{AllByRecursion}
 use Rattle.std.specs.Str.{bytes_eq}
 use Rattle.std.proofs.lemmas.Slice.Eq.{bytes_eq-Decides}
 use Rattle.der.specs.Trees.{Tree, leaf, node, Forest, none, more, Valid, tag_of}
@@ -26,11 +26,11 @@ taken b x p t e = ap (λ (c : Bool). cond c x (Some p)) t ∙ e
 
 module _ {M : Type 0} (tree : M → Tree) (Keeps : M → Type 0) (tags : Tags) (inner : Rule)
     (tagged : (m : M) → Keeps m → tags (tag_of (tree m)) ≡ true) (kept : (q : ℕ) (m : M) → Keeps m → inner q (parts_of (tree m)) ≡ None) where
-  list_row : (p : ℕ) (ms : List M) → All Keeps ms → list tags inner p (row_of tree ms) ≡ None
+  list_row : (p : ℕ) (ms : List M) → AllByRecursion Keeps ms → list tags inner p (row_of tree ms) ≡ None
   list_row p [] a = refl
   list_row p (m ∷ ms) (k, a) = taken _ _ p (tagged m k) (both _ _ (kept (p + head_size (tree m)) m k) (list_row (p + head_size (tree m) + body_size (tree m)) ms a))
 
-  some_row : (p : ℕ) (ms : List M) → All Keeps ms → 0 < length ms → some tags inner p (row_of tree ms) ≡ None
+  some_row : (p : ℕ) (ms : List M) → AllByRecursion Keeps ms → 0 < length ms → some tags inner p (row_of tree ms) ≡ None
   some_row p [] a l = absurd (omega arith)
   some_row p (m ∷ ms) (k, a) l = taken _ _ p (tagged m k) (both _ _ (kept (p + head_size (tree m)) m k) (list_row (p + head_size (tree m) + body_size (tree m)) ms a))
 
@@ -45,7 +45,7 @@ some_values p (v ∷ vs) l = any_values _ vs
 pub attribute_kept : (q : ℕ) (a : Attribute) → AttributeShape a → attribute q (parts_of (attribute_tree a)) ≡ None
 attribute_kept q a l = both _ _ (some_values _ a.values l) refl
 
-pub attributes_kept : (p : ℕ) (ms : List Attribute) → All AttributeShape ms → list (is 0x30) attribute p (row_of attribute_tree ms) ≡ None
+pub attributes_kept : (p : ℕ) (ms : List Attribute) → AllByRecursion AttributeShape ms → list (is 0x30) attribute p (row_of attribute_tree ms) ≡ None
 attributes_kept p ms a = list_row attribute_tree AttributeShape (is 0x30) attribute (λ m k. refl) attribute_kept p ms a
 
 pub unsigned_kept : (p : ℕ) (u : Option (List Attribute)) → IfThere UnsignedShape u → unsigned_attributes p (maybe unsigned_tree u none) ≡ None
@@ -59,7 +59,7 @@ signer_kept q s k = by s.identifier
     by (issuer parts) = both _ _ (attributes_kept _ s.signed k.signed) (unsigned_kept _ s.unsigned k.unsigned)
     by (key bytes) = both _ _ (attributes_kept _ s.signed k.signed) (unsigned_kept _ s.unsigned k.unsigned)
 
-signers_kept : (count : SignerCount) (p : ℕ) (ss : List Signer) → All SignerShape ss → SignersShape count ss → signers_by count p (row_of signer_tree ss) ≡ None
+signers_kept : (count : SignerCount) (p : ℕ) (ss : List Signer) → AllByRecursion SignerShape ss → SignersShape count ss → signers_by count p (row_of signer_tree ss) ≡ None
 signers_kept AtLeastOne p ss a l = some_row signer_tree SignerShape (is 0x30) signer (λ m k. refl) signer_kept p ss a l
 signers_kept ExactlyOne p [] a l = absurd (omega arith)
 signers_kept ExactlyOne p (s ∷ []) a l = both _ _ (signer_kept _ s a.0) refl
@@ -89,13 +89,13 @@ allowed_kept : (tags : Tags) (p : ℕ) (es : List Tree) → AllowedTags tags es 
 allowed_kept tags p es a = list_row (λ x. x) (λ x. tags (tag_of x) ≡ true) tags free (λ m k. k) (λ q m k. refl) p es a
 
 -- from the revocations on, and from the certificates on
-revocations_kept : (count : SignerCount) (p : ℕ) (rs : Option (List Tree)) (ss : List Signer) → IfThere (AllowedTags revocation_tags) rs → All SignerShape ss → SignersShape count ss →
+revocations_kept : (count : SignerCount) (p : ℕ) (rs : Option (List Tree)) (ss : List Signer) → IfThere (AllowedTags revocation_tags) rs → AllByRecursion SignerShape ss → SignersShape count ss →
     revocations count p (maybe revocations_tree rs (more (node 0x31 (row_of signer_tree ss)) none)) ≡ None
 revocations_kept count p None ss k a l = both _ _ (signers_kept count _ ss a l) refl
 revocations_kept count p (Some es) ss k a l = both _ _ (allowed_kept revocation_tags _ es k) (both _ _ (signers_kept count _ ss a l) refl)
 
 certificates_kept : (count : SignerCount) (p : ℕ) (cs rs : Option (List Tree)) (ss : List Signer) → IfThere (AllowedTags certificate_tags) cs → IfThere (AllowedTags revocation_tags) rs →
-    All SignerShape ss → SignersShape count ss →
+    AllByRecursion SignerShape ss → SignersShape count ss →
     certificates count p (maybe certificates_tree cs (maybe revocations_tree rs (more (node 0x31 (row_of signer_tree ss)) none))) ≡ None
 certificates_kept count p None None ss j k a l = revocations_kept count p None ss k a l
 certificates_kept count p None (Some es) ss j k a l = revocations_kept count p (Some es) ss k a l

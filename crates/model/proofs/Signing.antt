@@ -2,7 +2,7 @@
 use Rattle.std.proofs.Common.{◌≡◌, ℕ, ◌+◌, ◌-◌, ◌<◌, Bool, true, false, cond, eqb, ◌⊎◌, List, [], ◌∷◌, length, Some, None, Option, sym, refl, ap, ◌∙◌, subst, inl, inr, arith, lit<}
 use lib.Bits.{bit_and}
 use Rattle.std.proofs.lemmas.Bool.{eqb-true}
-use Rattle.std.specs.List.{AllByRecursion as All}
+use Rattle.std.specs.List.{AllByRecursion}
 use Rattle.der.specs.Trees.{Tree, leaf, node, Forest, none, more, Valid, Valids, tag_of}
 use Rattle.fields.specs.Reads.{is}
 use Rattle.fields.specs.Rules.{parts_of, Rule, nothing, free, field, optional, list, some, choose, follow, one}
@@ -49,7 +49,7 @@ attribute_of_lem levels q t v g e =
     (record { kind = f₁.body; values = vs.0 }, vs.1, cc)
 
 attributes_of : (levels p : ℕ) (ts : Forest) → Valids ts levels → list (is 0x30) attribute p ts ≡ None →
-    (ms : List Attribute) × All AttributeShape ms × (ts ≡ row_of attribute_tree ms)
+    (ms : List Attribute) × AllByRecursion AttributeShape ms × (ts ≡ row_of attribute_tree ms)
 attributes_of levels p ts v e = entries attribute_tree AttributeShape (is 0x30) attribute levels (attribute_of_lem levels) p ts v e
 
 -- unsigned attributes, or none
@@ -73,7 +73,7 @@ pub record Fields (ts : Forest) : Type 0 where
   pub algorithm : Forest
   pub signature : List ℕ
   pub unsigned : Option (List Attribute)
-  pub each : All AttributeShape signed
+  pub each : AllByRecursion AttributeShape signed
   pub least : IfThere UnsignedShape unsigned
   pub whole : ts ≡ more (algorithm_tree digest) (more (signed_tree signed) (more (node 0x30 algorithm) (more (leaf 4 signature) (maybe unsigned_tree unsigned none))))
 

@@ -2,7 +2,7 @@
 use Rattle.std.proofs.Common.{◌≡◌, ℕ, ◌+◌, ◌-◌, ◌<◌, Bool, true, false, cond, ◌⊎◌, List, [], ◌∷◌, length, Some, None, Option, sym, refl, ap, ◌∙◌, subst, inl, inr, arith}
 use lib.Bits.{bit_and}
 use Rattle.std.proofs.lemmas.Bool.{eqb-true}
-use Rattle.std.specs.List.{AllByRecursion as All}
+use Rattle.std.specs.List.{AllByRecursion}
 use Rattle.der.specs.Trees.{Tree, leaf, node, Forest, none, more, Valid, Valids, tag_of, body_of}
 use Rattle.fields.specs.Reads.{is}
 use Rattle.fields.specs.Rules.{parts_of, head_size, body_size, or_else, Rule, Tags, nothing, free, onward, field, optional, list, some, choose, follow}
@@ -76,7 +76,7 @@ leaf_of tag levels (node k parts) c v e = absurd (v.2 (ap (λ (x : ℕ). bit_and
 -- entries of a list: each is one of the things that its rule finds no break in
 module _ {M : Type 0} (tree : M → Tree) (Keeps : M → Type 0) (tags : Tags) (inner : Rule) (levels : ℕ)
     (one : (q : ℕ) (t : Tree) → Valid t levels → tags (tag_of t) ≡ true → inner q (parts_of t) ≡ None → (m : M) × Keeps m × (t ≡ tree m)) where
-  pub entries : (p : ℕ) (ts : Forest) → Valids ts levels → list tags inner p ts ≡ None → (ms : List M) × All Keeps ms × (ts ≡ row_of tree ms)
+  pub entries : (p : ℕ) (ts : Forest) → Valids ts levels → list tags inner p ts ≡ None → (ms : List M) × AllByRecursion Keeps ms × (ts ≡ row_of tree ms)
   entries p none v e = ([], tt, refl)
   entries p (more t ts) v e =
       let c = cond_none (tags (tag_of t)) _ p e in
@@ -85,7 +85,7 @@ module _ {M : Type 0} (tree : M → Tree) (Keeps : M → Type 0) (tags : Tags) (
       let ms = entries (p + head_size t + body_size t) ts v.1 o.1 in
       (m.0 ∷ ms.0, (m.1, ms.1), ap (λ (x : Tree). more x ts) m.2 ∙ ap (λ (x : Forest). more (tree m.0) x) ms.2)
 
-  pub some_entries : (p : ℕ) (ts : Forest) → Valids ts levels → some tags inner p ts ≡ None → (ms : List M) × All Keeps ms × (0 < length ms) × (ts ≡ row_of tree ms)
+  pub some_entries : (p : ℕ) (ts : Forest) → Valids ts levels → some tags inner p ts ≡ None → (ms : List M) × AllByRecursion Keeps ms × (0 < length ms) × (ts ≡ row_of tree ms)
   some_entries p ts v e =
       let f = field_none tags inner (list tags inner) p ts e in
       let w : Valids (more f.tree f.rest) levels = subst (λ (x : Forest). Valids x levels) f.whole v in

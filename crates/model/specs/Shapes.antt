@@ -1,6 +1,6 @@
 -- What a file's parts keep besides their form: tags that are allowed, and at least one where one has to be.
 use Rattle.std.specs.Prelude.{◌≡◌, ℕ, ◌<◌, Bool, true, ◌||◌, List, [], length, Some, None, Option, ◌==◌}
-use Rattle.std.specs.List.{AllByRecursion as All}
+use Rattle.std.specs.List.{AllByRecursion}
 use Rattle.der.specs.Trees.{Tree, Valid, tag_of}
 use Rattle.cms.specs.Identifiers.{time_stamp_info_id}
 use Rattle.cms.specs.Records.{certificate_tags, revocation_tags}
@@ -22,15 +22,15 @@ AttributeShape a = 0 < length a.values
 
 -- where the field of the unsigned attributes is there, it has at least one
 pub record UnsignedShape (attributes : List Attribute) : Type 0 where
-  pub each : All AttributeShape attributes
+  pub each : AllByRecursion AttributeShape attributes
   pub least : 0 < length attributes
 
 pub record SignerShape (s : Signer) : Type 0 where
-  pub signed : All AttributeShape s.signed
+  pub signed : AllByRecursion AttributeShape s.signed
   pub unsigned : IfThere UnsignedShape s.unsigned
 
 abbrev pub AllowedTags : (ℕ → Bool) → List Tree → Type 0
-AllowedTags tags ts = All (λ t. tags (tag_of t) ≡ true) ts
+AllowedTags tags ts = AllByRecursion (λ t. tags (tag_of t) ≡ true) ts
 
 abbrev pub SignersShape : SignerCount → List Signer → Type 0
 SignersShape AtLeastOne ss = 0 < length ss
@@ -56,5 +56,5 @@ pub record Shape (settings : Settings) (f : File) : Type 0 where
   pub content : ContentShape settings.content f.content_type_of f.content
   pub certificates : IfThere (AllowedTags certificate_tags) f.certificates
   pub revocations : IfThere (AllowedTags revocation_tags) f.revocations
-  pub signers : All SignerShape f.signers
+  pub signers : AllByRecursion SignerShape f.signers
   pub count : SignersShape settings.signers f.signers

@@ -1,6 +1,6 @@
 -- Attributes that stand in a file are read one by one.
 use Rattle.std.proofs.Common.{◌≡◌, ℕ, ◌+◌, ◌-◌, ◌<◌, ◌≤◌, Bool, true, false, cond, not, List, [], ◌∷◌, ◌++◌, length, take, drop, Some, None, Ok, Err, Option, Result, sym, refl, ap, ◌∙◌, subst, arith}
-use Rattle.std.specs.List.{AllByRecursion as All}
+use Rattle.std.specs.List.{AllByRecursion}
 use Rattle.std.proofs.lemmas.List.{append_assoc, take-append-drop}
 use Rattle.der.proofs.Parts.{part_front, part_rest}
 use Rattle.model.specs.Shapes.{AttributeShape}
@@ -135,7 +135,7 @@ module _ (levels : ℕ) (file : List ℕ) (at end : ℕ) (l : at < end) where
       })
 
 -- rows one behind the other
-all_append : {M : Type 0} (P : M → Type 0) (xs ys : List M) → All P xs → All P ys → All P (xs ++ ys)
+all_append : {M : Type 0} (P : M → Type 0) (xs ys : List M) → AllByRecursion P xs → AllByRecursion P ys → AllByRecursion P (xs ++ ys)
 all_append P [] ys a b = b
 all_append P (x ∷ xs) ys (p, a) b = (p, all_append P xs ys a b)
 

@@ -1,6 +1,6 @@
 -- Signers that stand in a file.
 use Rattle.std.specs.Prelude.{◌≡◌, ℕ, zero, suc, ◌≤◌, List, [], ◌∷◌, length, Some, None, Option}
-use Rattle.std.specs.List.{AllByRecursion as All}
+use Rattle.std.specs.List.{AllByRecursion}
 use Rattle.der.specs.Spans.{part}
 use Rattle.der.specs.Trees.{Valids, encodes}
 use Rattle.fields.specs.declared.located.Entries.{Entries}
@@ -28,7 +28,7 @@ pub record SignerThere (levels : ℕ) (file : List ℕ) (x : Located) (p : ℕ) 
 -- these signers stand from `at` to `end`
 pub record Signers (levels : ℕ) (file : List ℕ) (at end : ℕ) (ss : List Signer) : Type 0 where
   pub valid : Valids (row_of signer_tree ss) levels
-  pub shape : All SignerShape ss
+  pub shape : AllByRecursion SignerShape ss
   pub bytes : part file at end ≡ encodes (row_of signer_tree ss)
   pub order : at ≤ end
   pub inside : end ≤ length file

@@ -1,6 +1,6 @@
 -- Attributes that stand back to back in a file.
 use Rattle.std.specs.Prelude.{◌≡◌, ℕ, ◌≤◌, List, [], ◌∷◌, length, Some, None, Option}
-use Rattle.std.specs.List.{AllByRecursion as All}
+use Rattle.std.specs.List.{AllByRecursion}
 use Rattle.der.specs.Spans.{part}
 use Rattle.der.specs.declared.span.Span.{Span}
 use Rattle.der.specs.Trees.{Tree, Forest, Valids, encodes}
@@ -12,7 +12,7 @@ use Rattle.model.specs.Shapes.{AttributeShape}
 -- these attributes stand from `at` to `end`
 pub record Row (levels : ℕ) (file : List ℕ) (at end : ℕ) (ms : List Attribute) : Type 0 where
   pub valid : Valids (row_of attribute_tree ms) levels
-  pub shape : All AttributeShape ms
+  pub shape : AllByRecursion AttributeShape ms
   pub bytes : part file at end ≡ encodes (row_of attribute_tree ms)
   pub order : at ≤ end
   pub inside : end ≤ length file

@@ -1,6 +1,6 @@
 //! Attributes of a signer, looked through one by one.
 ghost use Rattle.std.specs.Prelude.{◌≡◌, ℕ, not, ◌&&◌, List, [], length};
-ghost use Rattle.std.specs.List.{AllByRecursion as All};
+ghost use Rattle.std.specs.List.{AllByRecursion};
 ghost use Rattle.model.specs.Parts.{Attribute as Part, attribute_tree, row_of};
 ghost use Rattle.model.specs.Shapes.{AttributeShape};
 ghost use Rattle.rules.specs.Attributes.{holds as Holds, lacks as Lacks, names, is_among, again, one_value, is_content_type, faulty_signed, first_faulty, first_with, misplaced};

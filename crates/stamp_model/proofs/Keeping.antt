@@ -1,6 +1,6 @@
 -- Later copies: the relations carry through, and what a stamp stands for stays.
 use Rattle.std.proofs.Common.{◌≡◌, ℕ, zero, suc, List, [], ◌∷◌, ◌++◌, map, Some, None, Option, sym, refl, ap, ◌∙◌, subst, arith}
-use Rattle.std.specs.List.{ContainsAt as Has, AllZip, AllByRecursion as All, slice_get}
+use Rattle.std.specs.List.{ContainsAt as Has, AllZip, AllByRecursion, slice_get}
 use Rattle.std.proofs.ByRecursion.{all-has, all_has_itself, All-weaker, has_append_left}
 use Rattle.std.proofs.lemmas.List.{append-nil, append_assoc}
 use Rattle.der.specs.Trees.{Tree, leaf, none, encode, encodes}
@@ -133,14 +133,14 @@ pub signer_stays : SignerStays
 signer_stays f f' k s p e = signer_there Included f.signers f'.signers k s p.signers e
 
 -- what is included stays so under a function
-all_mapped : {X Y : Type 0} (P : Y → Type 0) (g : X → Y) (xs : List X) → All P (map g xs) → All (λ x. P (g x)) xs
+all_mapped : {X Y : Type 0} (P : Y → Type 0) (g : X → Y) (xs : List X) → AllByRecursion P (map g xs) → AllByRecursion (λ x. P (g x)) xs
 all_mapped P g [] p = tt
 all_mapped P g (x ∷ xs) p = (p.0, all_mapped P g xs p.1)
 
 has_map : {X Y : Type 0} (g : X → Y) (xs : List X) (x : X) → Has xs x → Has (map g xs) (g x)
 has_map g xs x h = all-has (λ y. Has (map g xs) (g y)) xs x (all_mapped (Has (map g xs)) g xs (all_has_itself (map g xs))) h
 
-map_all : {X Y : Type 0} (P : Y → Type 0) (g : X → Y) (xs : List X) → All (λ x. P (g x)) xs → All P (map g xs)
+map_all : {X Y : Type 0} (P : Y → Type 0) (g : X → Y) (xs : List X) → AllByRecursion (λ x. P (g x)) xs → AllByRecursion P (map g xs)
 map_all P g [] p = tt
 map_all P g (x ∷ xs) p = (p.0, map_all P g xs p.1)
 

@@ -1,6 +1,6 @@
 -- An imprint input tells its parts: each element says itself where it ends, and digests have one length.
 use Rattle.std.proofs.Common.{◌≡◌, ℕ, ◌-◌, List, [], ◌∷◌, ◌++◌, length, take, drop, Some, None, Option, sym, refl, ap, ◌∙◌, arith}
-use Rattle.std.specs.List.{ContainsAt as Has, AllZip, AllByRecursion as All}
+use Rattle.std.specs.List.{ContainsAt as Has, AllZip, AllByRecursion}
 use Rattle.std.proofs.ByRecursion.{all-has}
 use Rattle.std.proofs.lemmas.List.{append-nil, append_assoc, take_at, drop_at}
 use Rattle.der.specs.Trees.{Tree, leaf, node, Forest, none, more, Valid, Valids, encode, encodes}
@@ -15,7 +15,7 @@ behind_maybe : {M : Type 0} (tree : M → Tree) (o : Option M) (rest : Forest) (
 behind_maybe tree None rest levels v = v
 behind_maybe tree (Some m) rest levels v = v.1
 
-row_valid : {M : Type 0} (tree : M → Tree) (ms : List M) (levels : ℕ) → Valids (row_of tree ms) levels → All (λ m. Valid (tree m) levels) ms
+row_valid : {M : Type 0} (tree : M → Tree) (ms : List M) (levels : ℕ) → Valids (row_of tree ms) levels → AllByRecursion (λ m. Valid (tree m) levels) ms
 row_valid tree [] levels v = tt
 row_valid tree (m ∷ ms) levels v = (v.0, row_valid tree ms levels v.1)
 
@@ -39,7 +39,7 @@ same_front xs xs' rest rest' l e = (
 )
 
 -- as many trees on either side, before other bytes
-trees_tell : (ts ts' : List Tree) (levels : ℕ) (x x' : List ℕ) → length ts ≡ length ts' → All (λ t. Valid t levels) ts → All (λ t. Valid t levels) ts' →
+trees_tell : (ts ts' : List Tree) (levels : ℕ) (x x' : List ℕ) → length ts ≡ length ts' → AllByRecursion (λ t. Valid t levels) ts → AllByRecursion (λ t. Valid t levels) ts' →
     encodes (row ts) ++ x ≡ encodes (row ts') ++ x' → AllZip (λ t t'. encode t ≡ encode t') ts ts' × (x ≡ x')
 trees_tell [] [] levels x x' l v v' e = (tt, e)
 trees_tell [] (t' ∷ ts') levels x x' l v v' e = absurd (omega arith)
@@ -55,7 +55,7 @@ abbrev six_trees : Signer → List Tree
 six_trees s =
     version_tree s.identifier ∷ identifier_tree s.identifier ∷ algorithm_tree s.digest ∷ signed_tree s.signed ∷ node 0x30 s.algorithm ∷ leaf 4 s.signature ∷ []
 
-six_valid : (s : Signer) → Valid (signer_tree s) 28 → All (λ t. Valid t 27) (six_trees s)
+six_valid : (s : Signer) → Valid (signer_tree s) 28 → AllByRecursion (λ t. Valid t 27) (six_trees s)
 six_valid s v = let w = v.3 in (w.0, (w.1.0, (w.1.1.0, (w.1.1.1.0, (w.1.1.1.1.0, (w.1.1.1.1.1.0, tt))))))
 
 fields_tell : (s s' : Signer) (x x' : List ℕ) → Valid (signer_tree s) 28 → Valid (signer_tree s') 28 → six_bytes s ++ x ≡ six_bytes s' ++ x' → SameFields s s' × (x ≡ x')

@@ -1,6 +1,6 @@
 -- What a stamp stands for, and when it covers.
 use Rattle.std.specs.Prelude.{◌≡◌, ℕ, List, ◌++◌, map}
-use Rattle.std.specs.List.{ContainsAt as Has, AllByRecursion as All}
+use Rattle.std.specs.List.{ContainsAt as Has, AllByRecursion}
 use Rattle.der.specs.Trees.{Tree, none, encode, encodes}
 pub use Rattle.model.specs.Parts.{given}
 use Rattle.model.specs.Parts.{Attribute, attribute_tree, Signer, six_fields}
@@ -35,4 +35,4 @@ Matched D elements entry = Has (map D elements) entry
 -- a stamp covers: its imprint is the digest of its input, and every entry has its element in its list
 pub record Covers (D : List ℕ → List ℕ) (content : List ℕ) (f : File) (s : Signer) (st : Stamp) : Type 0 where
   pub agrees : st.info.imprint ≡ D (stamp_input D content f s st)
-  pub matched : (list : ListName) → All (Matched D (elements_of f s list)) (entries_for st.index list)
+  pub matched : (list : ListName) → AllByRecursion (Matched D (elements_of f s list)) (entries_for st.index list)

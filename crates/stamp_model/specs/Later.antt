@@ -1,6 +1,6 @@
 -- When one file is as late a copy as another, and when it is later by appending alone.
 use Rattle.std.specs.Prelude.{◌≡◌, List, ◌++◌}
-use Rattle.std.specs.List.{ContainsAt as Has, AllZip, AllByRecursion as All}
+use Rattle.std.specs.List.{ContainsAt as Has, AllZip, AllByRecursion}
 use Rattle.der.specs.Trees.{Tree}
 use Rattle.model.specs.Parts.{given, Attribute, Signer}
 use Rattle.model.specs.Files.{File}
@@ -11,7 +11,7 @@ Keeping = (X : Type 0) → List X → List X → Type 0
 
 -- every one of these stands among those
 abbrev pub Included : Keeping
-Included X xs ys = All (Has ys) xs
+Included X xs ys = AllByRecursion (Has ys) xs
 
 -- those begin with these
 abbrev pub Begins : Keeping
