@@ -1,5 +1,5 @@
 -- The forms of Maj and Ch that the code has, and the standard's: equal on words of 32 bits, bit by bit.
-use Rattle.std.proofs.Common.{◌≡◌, ℕ, zero, suc, ◌+◌, ◌-◌, ◌*◌, ◌/◌, ◌%◌, ◌^◌, ◌<◌, ◌≤◌, sym, refl, ap, ◌∙◌, add-one, arith}
+use Rattle.std.proofs.Common.{◌≡◌, ℕ, zero, suc, ◌+◌, ◌-◌, ◌*◌, ◌/◌, ◌%◌, ◌^◌, ◌<◌, sym, refl, ap, ◌∙◌, add-one, arith}
 use lib.Bits.{bit_and, bit_xor, and_shr, xor_shr, and_mod, xor_mod}
 use Rattle.std.proofs.lemmas.Nat.{div-add-mod', pow-add, shr_below}
 use Rattle.sha256.specs.Sha.{Ch, Maj}

@@ -2,8 +2,7 @@
 ghost use Rattle.std.specs.Prelude.{◌≡◌, ℕ, ◌+◌, ◌<◌, ◌≤◌, List, [], ◌∷◌, ◌++◌, length, drop};
 ghost use Rattle.sha256.specs.Sha.{four, written, sha256 as Sha, sha256};
 ghost use Rattle.sha256.specs.Streams.{Holds};
-ghost use borrow.Author.Rules.{rules};
-ghost use Rattle.std.proofs.Common.{arith};
+ghost use Rattle.std.proofs.Common.{rules};
 
 use crate::state::Sha256;
 use crate::stream::Stream;
@@ -49,11 +48,11 @@ impl Digest for Sha256 {
 
     ghost sized = { unfold sha256 written in Prim.search rules };
 
-    ghost small = { first_of (Prim.search rules, Prim.grind (arith, Self.row.coded.inj)) };
+    ghost small = { Prim.search rules };
 
-    ghost named = { first_of (Prim.search rules, Prim.grind (arith, Self.row.coded.inj)) };
+    ghost named = { Prim.search rules };
 
-    ghost level = { first_of (Prim.search rules, Prim.grind (arith, Self.row.coded.inj)) };
+    ghost level = { Prim.search rules };
 
     fn start() -> Sha256 {
         Sha256 {

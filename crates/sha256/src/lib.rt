@@ -1,4 +1,4 @@
-//! SHA-256 as FIPS 180-4 defines it: the type `state::Sha256`, a digest by `hash::Sha256Digest`.
+//! SHA-256 as FIPS 180-4 defines it: the type `state::Sha256`, a digest by its `impl` in `hash`.
 #![tactic(auto)]
 
 pub mod example;

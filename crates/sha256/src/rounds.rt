@@ -1,6 +1,6 @@
 //! The rounds of the compression function.
 ghost use Rattle.std.specs.Prelude.{◌≡◌, ℕ, ◌+◌, ◌*◌, ◌/◌, ◌≤◌, List, length};
-ghost use Rattle.sha256.specs.Sha.{Ch, Maj, Σ₀, Σ₁, σ₀, σ₁, M as word_of, mixed, round as roundOf, added, compress, H as hashValue};
+ghost use Rattle.sha256.specs.Sha.{Ch, Maj, Σ₀, Σ₁, σ₀, σ₁, M as word_of, mixed, round as round_of, added, compress, H as hash_value};
 ghost use Rattle.sha256.specs.Windows.{Slid, Reached};
 
 use crate::window::{Step, Window};
@@ -57,7 +57,7 @@ fn small1(x: u32) -> u32
 
 /// One round on the working variables.
 fn turn(v: Words, k: u32, w: u32) -> Words
-    ensures { result ≡ roundOf v k w }
+    ensures { result ≡ round_of v k w }
 {
     let t1 = v
         .h
@@ -202,7 +202,7 @@ fn compressed(s: Words, block: &[u8]) -> Words
 
 /// The hash value after the whole blocks of the bytes. Kept in one loop, it stays in registers from block to block.
 pub(crate) fn compress_blocks(s: Words, bytes: &[u8]) -> Words
-    ensures { result ≡ hashValue (length bytes.now / 64) s bytes.now }
+    ensures { result ≡ hash_value (length bytes.now / 64) s bytes.now }
 {
     let mut t = s;
     for i in 0..bytes.len() / 64 {

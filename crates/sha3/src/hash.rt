@@ -2,8 +2,7 @@
 ghost use Rattle.std.specs.Prelude.{◌≡◌, ℕ, ◌+◌, ◌^◌, ◌<◌, ◌≤◌, List, [], ◌∷◌, ◌++◌, length};
 ghost use Rattle.sha3.specs.Sha3.{padded, sha3 as Value, sha3, squeezed};
 ghost use Rattle.sha3.specs.Streams.{Holds, fresh};
-ghost use borrow.Author.Rules.{rules};
-ghost use Rattle.std.proofs.Common.{arith};
+ghost use Rattle.std.proofs.Common.{rules};
 
 use crate::block::{absorb_block, squeeze};
 use crate::lanes::{Plane, State};
@@ -105,11 +104,11 @@ impl Digest for Sha3 {
 
     ghost sized = { unfold sha3 squeezed in Prim.search rules };
 
-    ghost small = { first_of (Prim.search rules, Prim.grind (arith, Self.row.coded.inj)) };
+    ghost small = { Prim.search rules };
 
-    ghost named = { first_of (Prim.search rules, Prim.grind (arith, Self.row.coded.inj)) };
+    ghost named = { Prim.search rules };
 
-    ghost level = { first_of (Prim.search rules, Prim.grind (arith, Self.row.coded.inj)) };
+    ghost level = { Prim.search rules };
 
     fn start() -> Sha3 {
         Sha3 { stream: empty() }

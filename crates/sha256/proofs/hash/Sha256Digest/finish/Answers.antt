@@ -1,7 +1,6 @@
-use Rattle.std.proofs.Common.{◌≡◌, ◌+◌, ◌/◌, ◌≤◌, List, ◌++◌, length, drop, sym, refl, ap, ◌∙◌, subst, arith}
-use Rattle.digest.specs.Took.{Wrote}
+use Rattle.std.proofs.Common.{◌≡◌, ◌++◌, drop, sym, refl, ap, ◌∙◌, subst, arith}
 use Rattle.sha256.specs.Sha.{sha256, written, padded, padding}
-use Rattle.sha256.specs.Streams.{Holds, fed}
+use Rattle.sha256.specs.Streams.{Holds}
 use Rattle.sha256.proofs.Holding.{holds_fed}
 use Rattle.sha256.proofs.hash.Sha256Digest.finish.Goals as goal
 

@@ -1,5 +1,4 @@
-use Rattle.std.proofs.Common.{◌≡◌, ◌+◌, ◌≤◌, List, ◌++◌, length, sym, refl, ap, ◌∙◌, subst, arith}
-use Rattle.digest.specs.Took.{Took}
+use Rattle.std.proofs.Common.{refl, arith}
 use Rattle.sha256.proofs.hash.Sha256Digest.take.Goals as goal
 
 pub invariant_of-self : goal.invariant_of-self

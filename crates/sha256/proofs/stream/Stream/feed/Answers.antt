@@ -1,4 +1,4 @@
-use Rattle.std.proofs.Common.{◌≡◌, ◌+◌, length, get_or, take, sym, refl, ap, ◌∙◌, subst, arith, length-take, take_all}
+use Rattle.std.proofs.Common.{get_or, take, sym, ap, ◌∙◌, arith, length-take, take_all}
 use Rattle.std.proofs.lemmas.List.Sums.{fold_more}
 use Rattle.sha256.specs.Streams.{pushed, fed}
 use Rattle.sha256.proofs.Holding.{count_fed}

@@ -4,7 +4,7 @@ use Rattle.sha3.proofs.hash.Sha3Digest.take.Goals as goal
 pub invariant_of-self : goal.invariant_of-self
 invariant_of-self c =
     let n = c.absorb.ensures.counts in
-    (omega (arith, n, c.args.self.now.few), tt)
+    record { few = omega (arith, n, c.args.self.now.few) }
 
 pub returns : goal.returns
 returns c = λ xs is.

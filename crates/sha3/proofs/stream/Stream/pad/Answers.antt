@@ -10,7 +10,7 @@ returns-then-left-eq0 c = λ xs h.
 
 pub loop-i-preserved : goal.loop-i-preserved
 loop-i-preserved c =
-    let i = c.loop-i.-i in (
+    let i = c.loop-i._i in (
       omega (arith, c.push-in-loop-i.ensures.counts, c.loop-i.invariant.0),
       λ xs h.
           let next : (xs ++ replicate i 0) ++ 0 ∷ [] ≡ xs ++ replicate (i + 1) 0 =
@@ -20,6 +20,6 @@ loop-i-preserved c =
 
 pub returns : goal.returns
 returns c = λ xs h.
-    let left : 135 - c.args.self.count % 136 ≡ c.loop-i.-i + 1 = omega arith in
-    subst (Holds _) (padded_more xs c.args.self.count c.loop-i.-i h.counted left)
+    let left : 135 - c.args.self.count % 136 ≡ c.loop-i._i + 1 = omega arith in
+    subst (Holds _) (padded_more xs c.args.self.count c.loop-i._i h.counted left)
     (c.push-3.ensures.holds _ (c.loop-i.invariant.1 _ (c.push-2.ensures.holds xs h)))

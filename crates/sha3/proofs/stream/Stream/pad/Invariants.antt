@@ -4,5 +4,5 @@ use Rattle.sha3.proofs.stream.Stream.pad.Given as goal
 
 abbrev pub invariant-loop-i : goal.invariant-loop-i
 invariant-loop-i l =
-    (l.s.count ≡ l.initial.s.count + l.-i)
-    × ((xs : List ℕ) → Holds l.initial.s xs → Holds l.s (xs ++ replicate l.-i 0))
+    (l.s.count ≡ l.initial.s.count + l._i)
+    × ((xs : List ℕ) → Holds l.initial.s xs → Holds l.s (xs ++ replicate l._i 0))
