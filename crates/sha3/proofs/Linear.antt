@@ -4,7 +4,7 @@ use native.Mathlib.Nat.{mul-mod_left}
 use lib.Bits.{bit_or, bit_xor, or_self, or_shifted, xor_assoc, xor_comm, xor_lt, xor_shr, xor_mod, xor_block}
 use Rattle.std.proofs.lemmas.Nat.{mod-pow-add, shl-shr, shr_below}
 use Rattle.std.proofs.lemmas.Bool.{cases_lt}
-use Rattle.std.specs.List.{range_with_len, AllByRecursion as All}
+use Rattle.std.specs.List.{range_with_len, AllByRecursion}
 use Rattle.sha3.specs.Keccak.{lane, each, rotl, offsets, C, D, θ, ρ, π}
 use Rattle.sha3.specs.Sha3.{mixed}
 
@@ -68,7 +68,7 @@ rotl_xor n x y hx hy = turn_xor (n % 64) x y (omega arith) hx hy
 abbrev pub Small : List ℕ → Type 0
 Small s = (i : ℕ) → get_or s i 0 < 2 ^ 64
 
-pub small_from_all : (s : List ℕ) → All (λ x. x < 2 ^ 64) s → Small s
+pub small_from_all : (s : List ℕ) → AllByRecursion (λ x. x < 2 ^ 64) s → Small s
 small_from_all [] h i = lit< tt
 small_from_all (x ∷ s) h zero = h.0
 small_from_all (x ∷ s) h (suc i) = small_from_all s h.1 i

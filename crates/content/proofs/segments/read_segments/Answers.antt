@@ -7,7 +7,7 @@ use Rattle.content.proofs.Filling.{read_none, read_next, read_full}
 use Rattle.content.proofs.segments.read_segments.Goals as goal
 
 -- the segment of a turn
-turned : (c : goal.After-slice-known-in-loop-filled·1) →
+turned : (c : goal.After-slice_known-in-loop-filled-1) →
     Turn c.args.segments.bytes.now c.loop-filled.reader.at c.args.segments.end c.contents-contents.result.now c.next.new.self.at
 turned c =
     let reads = c.in-Ok.ensures.reads in
