@@ -9,8 +9,8 @@ put-type_end-requires c =
     let x = c.args.input.now in
     omega (arith, four_long x.content_type.now x.content_digest.now x.fields.now x.index.now)
 
-pub put_digest-end-requires : goal.put_digest-end-requires
-put_digest-end-requires c =
+pub put-digest_end-requires : goal.put-digest_end-requires
+put-digest_end-requires c =
     let x = c.args.input.now in
     omega (arith, four_long x.content_type.now x.content_digest.now x.fields.now x.index.now)
 
@@ -29,7 +29,7 @@ returns c =
     let x = c.args.input.now in
     let was = c.args.area.now in
     let kind = put_next was was [] x.content_type.now _ 0 _ refl refl c.put-type_end.ensures.behind c.put-type_end.ensures.bytes in
-    let digest = put_next was _ _ x.content_digest.now _ _ _ kind.0 kind.1 c.put_digest-end.ensures.behind c.put_digest-end.ensures.bytes in
+    let digest = put_next was _ _ x.content_digest.now _ _ _ kind.0 kind.1 c.put-digest_end.ensures.behind c.put-digest_end.ensures.bytes in
     let fields = put_next was _ _ x.fields.now _ _ _ digest.0 digest.1 c.put-fields_end.ensures.behind c.put-fields_end.ensures.bytes in
     let index = put_next was _ _ x.index.now _ _ _ fields.0 fields.1 c.put.ensures.behind c.put.ensures.bytes in
     let joined : ((x.content_type.now ++ x.content_digest.now) ++ x.fields.now) ++ x.index.now ≡ bytes_of x = simp append_assoc in
