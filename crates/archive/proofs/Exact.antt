@@ -1,10 +1,9 @@
 -- What is answered of an accepted file is told by it.
-use Rattle.std.proofs.Common.{◌≡◌, ℕ, ◌<◌, ◌≤◌, List, [], ◌∷◌, ◌++◌, length, take, drop, Some, None, Ok, Err, Option, Result, sym, refl, ap, ◌∙◌, subst, arith}
+use Rattle.std.proofs.Common.{◌≡◌, ℕ, ◌<◌, List, [], ◌++◌, length, take, Some, None, Ok, Err, Option, Result, sym, ap, ◌∙◌, arith}
 use Rattle.std.proofs.lemmas.List.{append-nil, take_all}
-use Rattle.der.specs.Trees.{Tree, node, Valid, Starts, encode}
+use Rattle.der.specs.Trees.{Tree, Valid, Starts, encode}
 use Rattle.der.proofs.Unique.{no_fault_at, same_tree}
 use Rattle.cms.specs.Grammar.{first_break}
-use Rattle.model.specs.Parts.{Signer}
 use Rattle.model.specs.Files.{File, file_tree, file_bytes}
 use Rattle.model.proofs.Keeping.{file_has_no_break}
 use Rattle.model.proofs.Single.{one_file}
@@ -15,7 +14,7 @@ use Rattle.archive.specs.declared.refusal.Refusal.{Refusal}
 use Rattle.archive.specs.declared.refusal.Refusal.TheVariants.{Length, Element, Field, Count, Rule, NoSigner}
 use Rattle.archive.specs.Accepted.{file_settings, Fits, Formed, Accepted}
 use Rattle.archive.specs.Laws.{Outcome}
-use Rattle.archive.specs.Outcome.{Served, Refused, signer_of, reading_of}
+use Rattle.archive.specs.Outcome.{signer_of, reading_of}
 use Rattle.archive.specs.Steps.{told_of}
 
 pub one_formed : (bytes : List ℕ) (f f' : File) → Formed bytes f → Formed bytes f' → f ≡ f'

@@ -1,5 +1,5 @@
 -- Bytes that begin with an element are a file by its form, or have a first break.
-use Rattle.std.proofs.Common.{◌≡◌, ℕ, ◌+◌, ◌-◌, ◌≤◌, List, [], ◌∷◌, ◌++◌, length, take, drop, Some, None, Option, sym, refl, ap, ◌∙◌, subst, arith}
+use Rattle.std.proofs.Common.{◌≡◌, ℕ, ◌+◌, ◌-◌, List, [], ◌∷◌, ◌++◌, length, drop, None, sym, refl, ap, ◌∙◌, subst, arith}
 use Rattle.std.proofs.lemmas.List.{take-append-drop, take_all, append-nil}
 use Rattle.der.specs.Spans.{part}
 use Rattle.der.specs.Trees.{Tree, Valid, Starts, encode, tag_of}
@@ -8,11 +8,9 @@ use Rattle.cms.specs.Grammar.{message, first_break, surplus_at}
 use Rattle.fields.specs.Reads.{is}
 use Rattle.fields.specs.Rules.{parts_of, head_size, body_size, or_else}
 use Rattle.cms.specs.Places.{message_at}
-use Rattle.model.specs.Files.{File, file_tree, file_bytes}
-use Rattle.model.specs.Shapes.{Shape}
 use Rattle.model.proofs.Filing.{no_break_is_file}
 use Rattle.model.proofs.Unbroken.{some_not_none, cond_none, or_none}
-use Rattle.archive.specs.Accepted.{file_settings, Formed}
+use Rattle.archive.specs.Accepted.{file_settings}
 use Rattle.archive.specs.Steps.{FormedAt}
 
 -- what stands behind the first element

@@ -1,7 +1,7 @@
 -- Where the parts of a file lie.
-use Rattle.std.proofs.Common.{◌≡◌, ℕ, ◌+◌, ◌-◌, ◌≤◌, List, [], ◌∷◌, ◌++◌, length, Some, None, Option, sym, refl, ap, ◌∙◌, subst, arith}
+use Rattle.std.proofs.Common.{◌≡◌, ℕ, ◌+◌, List, [], ◌∷◌, length, Some, None, Option, sym, refl, ap, ◌∙◌, subst, arith}
 use Rattle.std.proofs.lemmas.List.{append-nil}
-use Rattle.der.specs.Trees.{Tree, leaf, node, Forest, none, more, Valid, encode}
+use Rattle.der.specs.Trees.{Tree, leaf, node, Forest, none, more}
 use Rattle.cms.specs.declared.located.Message.{Message}
 use Rattle.cms.specs.Identifiers.{signed_data_id}
 use Rattle.fields.specs.Placed.{Placed, placed_from, nth, past, if_first, mapped, entries_for, span_of}
@@ -9,9 +9,9 @@ use Rattle.cms.specs.Places.{message_at}
 use Rattle.fields.specs.Rules.{head_size, body_size}
 use Rattle.fields.specs.Stands.{At}
 use Rattle.fields.proofs.Standing.{rest_at, inside_at, first_bytes}
-use Rattle.model.specs.Parts.{row_of, row, maybe, Signer, signer_tree, content_parts}
+use Rattle.model.specs.Parts.{row_of, maybe, signer_tree, content_parts}
 use Rattle.model.specs.Files.{File, certificates_tree, revocations_tree, content_type_tree, content_info_tree, signers_tree, signed_data_tree, file_tree, file_bytes}
-use Rattle.rules.specs.Offsets.{behind, inside, skip_maybe, data_at, certificates_at, revocations_at, signers_at}
+use Rattle.rules.specs.Offsets.{behind, inside, skip_maybe, data_at, certificates_at, signers_at}
 use Rattle.rules.specs.Signers.{Signers}
 use Rattle.archive.specs.Accepted.{Formed}
 use Rattle.archive.specs.Outcome.{count_of}

@@ -1,6 +1,5 @@
 -- A signer by its number, and what is told of it.
-use Rattle.std.proofs.Common.{◌≡◌, ℕ, zero, suc, ◌+◌, ◌-◌, ◌≤◌, List, [], ◌∷◌, length, take, Some, None, Ok, Err, Option, Result, sym, refl, ap, ◌∙◌, subst, arith, MatchResult}
-use Rattle.cms.specs.declared.located.Message.{Message}
+use Rattle.std.proofs.Common.{◌≡◌, ℕ, zero, suc, ◌+◌, ◌-◌, List, [], ◌∷◌, take, Some, None, Option, Result, sym, refl, ap, subst, arith, MatchResult}
 use Rattle.cms.specs.declared.located.Signer.{Signer as Located}
 use Rattle.cms.specs.Places.{signer_at}
 use Rattle.fields.specs.Rules.{head_size, body_size}
@@ -12,8 +11,8 @@ use Rattle.archive.specs.declared.answers.Reading.{Reading}
 use Rattle.archive.specs.declared.refusal.Refusal.{Refusal}
 use Rattle.archive.specs.declared.refusal.Refusal.TheVariants.{Length, Element, Field, Count, Rule, NoSigner}
 use Rattle.archive.specs.Accepted.{Fits, Accepted}
-use Rattle.archive.specs.Outcome.{Served, Refused, signer_of, reading_of}
-use Rattle.archive.specs.Steps.{AcceptedAt, RefusedFile, told_of}
+use Rattle.archive.specs.Outcome.{Served, Refused, signer_of}
+use Rattle.archive.specs.Steps.{RefusedFile, told_of}
 
 pub no_number : (n p : ℕ) (ss : List Signer) → None ≡ signer_number n p ss → signer_of n ss ≡ None
 no_number n p [] e = refl

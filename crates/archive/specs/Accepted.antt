@@ -1,5 +1,5 @@
 -- Which bytes are a file that is accepted.
-use Rattle.std.specs.Prelude.{◌≡◌, ℕ, ◌<◌, ◌≤◌, List, length, take, None}
+use Rattle.std.specs.Prelude.{◌≡◌, ℕ, ◌<◌, ◌≤◌, List, length, None}
 use Rattle.der.specs.Trees.{Valid}
 use Rattle.cms.specs.declared.settings.Settings.{Settings}
 use Rattle.cms.specs.declared.settings.SignerCount.TheVariants.{AtLeastOne}

@@ -1,5 +1,5 @@
 -- What `read` answers.
-use Rattle.std.specs.Prelude.{◌≡◌, ℕ, zero, suc, ◌≤◌, List, [], ◌∷◌, ◌++◌, length, take, Some, None, Option}
+use Rattle.std.specs.Prelude.{◌≡◌, ℕ, zero, suc, List, [], ◌∷◌, ◌++◌, length, take, Some, None, Option}
 use Rattle.der.specs.Trees.{Tree, Valid, encode}
 use Rattle.der.specs.Faults.{InElement}
 use Rattle.cms.specs.Grammar.{first_break}

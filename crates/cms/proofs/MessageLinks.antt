@@ -15,7 +15,7 @@ use Rattle.cms.specs.Identifiers.{signed_data_id, time_stamp_info_id}
 use Rattle.fields.specs.Reads.{◌>>=◌, is, tagged, allowed_of, expect_of, finish_of, list_of, entries_in, behind, span_stop, entries_stop, broke}
 use Rattle.cms.specs.Records.{certificate_tags, revocation_tags, octet_tags, octets_in, content_in, or_detached, plain_in, info_in, info_stop, data_in, signed_data_in, message_in, message_of}
 use Rattle.fields.specs.Placed.{located}
-use Rattle.fields.specs.Rules.{parts_of, head_size, body_size, nothing, free, field, optional, list, one}
+use Rattle.fields.specs.Rules.{parts_of, head_size, body_size, nothing, free, field, optional, list}
 use Rattle.cms.specs.Grammar.{signers_by, signers, revocations, certificates, content, content_info, data_fields, by_data_version, signed_data, message_fields, message, surplus_at, first_break}
 use Rattle.cms.proofs.Readings.{info_whole}
 use Rattle.fields.proofs.Tags.{seq, set, field_zero, field_one, segments}

@@ -7,7 +7,7 @@ use Rattle.cms.specs.declared.settings.SignerCount.TheVariants.{AtLeastOne, Exac
 use Rattle.fields.specs.Reads.{◌>>=◌, is, any_of, expect_of, list_of, some_of, entries_in, finish_of, span_stop, entries_stop, broke}
 use Rattle.cms.specs.Records.{attribute_in, attribute_of, attribute_entry, signer_in, signer_of, signer_stop, signer_entry, signers_in}
 use Rattle.fields.specs.Placed.{located}
-use Rattle.fields.specs.Rules.{parts_of, Rule, nothing, free, field, list, some, follow, one}
+use Rattle.fields.specs.Rules.{parts_of, Rule, nothing, free, field, list, some, follow}
 use Rattle.cms.specs.Grammar.{any, attribute, unsigned_attributes, from_signature, from_signed, signer_fields, by_version, signer, signers_by}
 use Rattle.fields.proofs.Steps.{then_then, then_from, ok_same}
 use Rattle.cms.proofs.Readings.{attribute_read, signer_read}

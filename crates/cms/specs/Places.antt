@@ -1,10 +1,7 @@
 -- Where the parts of a message lie, told by its tree.
-use Rattle.std.specs.Prelude.{ℕ, zero, suc, ◌+◌, cond, List, [], ◌∷◌, length, drop, Some, None, Option}
-use Rattle.der.specs.declared.header.Header.{Header}
+use Rattle.std.specs.Prelude.{ℕ, cond, List, drop}
 use Rattle.der.specs.declared.span.Span.{Span}
-use Rattle.der.specs.Spans.{span_at}
-use Rattle.der.specs.Trees.{Tree, leaf, Forest, none, more, tag_of}
-use Rattle.fields.specs.declared.located.Entries.{Entries}
+use Rattle.der.specs.Trees.{Tree, tag_of}
 use Rattle.cms.specs.declared.located.Attribute.{Attribute}
 use Rattle.cms.specs.declared.located.Signer.{Signer}
 use Rattle.cms.specs.declared.located.Content.{Content}
@@ -14,7 +11,6 @@ use Rattle.cms.specs.declared.located.Message.{Message}
 use Rattle.fields.specs.Reads.{is}
 use Rattle.cms.specs.Records.{or_detached}
 use Rattle.fields.specs.Placed.{Placed, span_of, inside_of, nth, if_first, past, mapped, entries_for}
-use Rattle.fields.specs.Rules.{parts_of, head_size, body_size}
 
 -- an attribute: its type and its values
 abbrev pub attribute_from : Span → List Placed → Attribute

@@ -1,25 +1,23 @@
 -- The composed attribute carries the stamp, and may stand in a file.
-use Rattle.std.proofs.Common.{◌≡◌, ℕ, ◌+◌, ◌-◌, ◌<◌, ◌≤◌, List, [], ◌∷◌, ◌++◌, length, Some, None, Option, sym, refl, ap, ◌∙◌, subst, arith}
-use lib.Bits.{bit_and}
+use Rattle.std.proofs.Common.{◌≡◌, ℕ, ◌-◌, ◌<◌, ◌≤◌, List, [], ◌∷◌, length, Some, None, Option, refl, subst, arith}
 use Rattle.std.specs.List.{AllByRecursion}
 use Rattle.std.proofs.lemmas.List.{length-append}
-use Rattle.der.specs.Trees.{Tree, leaf, node, Forest, none, more, length_bytes, framed, encode, encodes, OneByteTag, Constructed, Valid, Valids}
+use Rattle.der.specs.Trees.{Tree, leaf, node, Forest, none, more, length_bytes, encode, encodes, OneByteTag, Constructed, Valid, Valids}
 use Rattle.fields.proofs.Tags.{seq, set, field_zero, field_one}
 use Rattle.cms.specs.Identifiers.{signed_data_id}
-use Rattle.model.specs.Parts.{row_of, row, maybe, Attribute, attribute_tree, Signer, six_fields, signer_tree, unsigned_tree}
+use Rattle.model.specs.Parts.{row_of, row, maybe, attribute_tree, Signer, six_fields, signer_tree, unsigned_tree}
 use Rattle.model.specs.Files.{File, content_info_tree, certificates_tree, revocations_tree, signers_tree, signed_data_tree, file_tree}
-use Rattle.model.specs.Shapes.{SignerShape, UnsignedShape, Shape}
+use Rattle.model.specs.Shapes.{SignerShape, Shape}
 use Rattle.rules.specs.Kinds.{kind_bytes}
 use Rattle.rules.specs.declared.kinds.AttributeKind.TheVariants.{ArchiveStamp}
-use Rattle.rules.specs.Limits.{first_too_many_of}
 use Rattle.message.proofs.SignerParts.{before, six_trees}
 use Rattle.limits.specs.Laws.{Keeps, SignerKeeps}
 use Rattle.limits.proofs.Keeping.{none_too_many}
-use Rattle.stamp_model.specs.Indexes.{Index, index_tree, index_bytes, IndexShape}
-use Rattle.stamp_model.specs.Tokens.{Info, token_settings, Token}
-use Rattle.stamp_model.specs.Stamps.{index_kind, carrying, Carries}
+use Rattle.stamp_model.specs.Indexes.{Index, index_tree}
+use Rattle.stamp_model.specs.Tokens.{token_settings}
+use Rattle.stamp_model.specs.Stamps.{index_kind, carrying}
 use Rattle.stamp_model.proofs.Telling.{signers_valid}
-use Rattle.compose.specs.Composed.{signer_with, token_with, stamp_of, stamp_attribute}
+use Rattle.compose.specs.Composed.{signer_with, token_with, stamp_attribute}
 use Rattle.compose.specs.Laws.{ComposedCarries, ComposedValid}
 
 -- what is known of the only signer of a list

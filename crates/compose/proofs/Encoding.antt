@@ -2,8 +2,7 @@
 use Rattle.std.proofs.Common.{◌≡◌, ℕ, List, [], ◌∷◌, ◌++◌, Some, None, Option, sym, refl, ap, ◌∙◌}
 use Rattle.std.proofs.lemmas.List.{append-nil, append_assoc}
 use Rattle.der.specs.Trees.{Tree, leaf, node, Forest, none, more, framed, encode, encodes}
-use Rattle.cms.specs.Identifiers.{signed_data_id}
-use Rattle.model.specs.Parts.{row, maybe, attribute_tree, Signer, six_fields, signer_tree, unsigned_tree}
+use Rattle.model.specs.Parts.{row, maybe, attribute_tree, Signer, signer_tree, unsigned_tree}
 use Rattle.model.specs.Files.{File, content_info_tree, certificates_tree, revocations_tree, signers_tree, signed_data_tree, file_tree}
 use Rattle.message.proofs.SignerParts.{before, six_trees}
 use Rattle.stamp_model.specs.Indexes.{Index, index_bytes}

@@ -1,5 +1,5 @@
 -- The pieces of a stamp, joined, are the stamp.
-use Rattle.std.proofs.Common.{◌≡◌, ℕ, List, [], ◌∷◌, ◌++◌, sym, refl, ap, ◌∙◌}
+use Rattle.std.proofs.Common.{◌≡◌, ℕ, List, [], ◌++◌, ap, ◌∙◌}
 use Rattle.std.proofs.lemmas.List.{append-nil}
 use Rattle.der.specs.Trees.{framed}
 use Rattle.der.specs.declared.written.HeaderBytes.{HeaderBytes}

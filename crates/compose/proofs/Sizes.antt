@@ -1,14 +1,12 @@
 -- How long nested elements are, and that headers made for a size fit.
-use Rattle.std.proofs.Common.{◌≡◌, ℕ, ◌+◌, ◌<◌, ◌≤◌, List, ◌∷◌, ◌++◌, length, Some, None, Option, sym, refl, ap, ◌∙◌, subst, arith, MatchOption}
+use Rattle.std.proofs.Common.{◌≡◌, ℕ, ◌+◌, ◌<◌, List, ◌++◌, length, Some, None, Option, sym, refl, subst, arith, MatchOption}
 use Rattle.std.proofs.lemmas.List.{length-append}
 use Rattle.der.specs.Trees.{length_bytes, framed}
 use Rattle.compose.specs.declared.frame.Framed.{Framed}
-use Rattle.compose.specs.declared.headers.Inner.{Inner}
-use Rattle.compose.specs.declared.headers.Outer.{Outer}
 use Rattle.compose.specs.declared.headers.Headers.{Headers}
 use Rattle.compose.specs.Framing.{Framing}
 use Rattle.compose.specs.Composed.{index_type, set_bytes, carrier_bytes, unsigned_bytes, signer_bytes, signers_bytes, data_bytes, field_bytes, message_bytes, values_bytes, stamp_type, stamp_bytes}
-use Rattle.compose.specs.Heads.{InnerFits, OuterFits, InnerHeads, InnerLong, OuterHeads, OuterLong, HeadsAll, Fitting, TooLong, identifier_bytes}
+use Rattle.compose.specs.Heads.{InnerHeads, InnerLong, OuterHeads, OuterLong, HeadsAll, Fitting, TooLong, identifier_bytes}
 
 -- an element is longer than its contents
 pub framed_longer : (tag : ℕ) (body : List ℕ) → length body < length (framed tag body)

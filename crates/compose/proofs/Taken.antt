@@ -1,14 +1,12 @@
 -- The front and the six fields lie where the record of a token says.
-use Rattle.std.proofs.Common.{◌≡◌, ℕ, ◌+◌, ◌-◌, List, [], ◌∷◌, ◌++◌, Some, None, Option, sym, refl, ap, ◌∙◌, subst}
+use Rattle.std.proofs.Common.{◌≡◌, ℕ, ◌-◌, List, ◌++◌, Some, None, Option, sym, refl, ap, ◌∙◌, subst}
 use Rattle.der.specs.Spans.{part}
-use Rattle.der.specs.Trees.{Tree, Forest, none, more, encodes}
+use Rattle.der.specs.Trees.{Tree, Forest, none, more}
 use Rattle.fields.proofs.Standing.{At}
 use Rattle.cms.specs.declared.located.Message.{Message}
-use Rattle.cms.specs.Places.{message_at}
-use Rattle.model.specs.Parts.{row, Signer}
-use Rattle.model.specs.Files.{File, file_tree, certificates_tree, revocations_tree, signers_tree}
-use Rattle.rules.specs.Offsets.{skip, skip_maybe, data_at, certificates_at, revocations_at, signers_at}
-use Rattle.message.specs.Lies.{Lies}
+use Rattle.model.specs.Parts.{Signer}
+use Rattle.model.specs.Files.{File, certificates_tree, revocations_tree, signers_tree}
+use Rattle.rules.specs.Offsets.{skip, skip_maybe, data_at, certificates_at, signers_at}
 use Rattle.message.proofs.Lying.{fields, data_end, file_lies}
 use Rattle.message.proofs.SignerParts.{before, alone_at, six_stand}
 use Rattle.stamp_model.specs.Tokens.{Info, token_settings}

@@ -1,5 +1,5 @@
 -- A stamp composed of a token without unsigned attributes and an index.
-use Rattle.std.specs.Prelude.{ℕ, List, [], ◌∷◌, ◌++◌, Some, None, Option}
+use Rattle.std.specs.Prelude.{ℕ, List, [], ◌∷◌, ◌++◌, Some}
 use Rattle.der.specs.Trees.{leaf, framed, encode}
 use Rattle.model.specs.Parts.{Attribute, Signer}
 use Rattle.model.specs.Files.{File, file_tree}

@@ -1,5 +1,5 @@
 -- Headers that are written before the contents are there.
-use Rattle.std.specs.Prelude.{◌≡◌, ℕ, ◌≤◌, List, ◌++◌, length, take}
+use Rattle.std.specs.Prelude.{◌≡◌, ℕ, List, ◌++◌, take}
 use Rattle.der.specs.Trees.{framed}
 use Rattle.der.specs.declared.written.HeaderBytes.{HeaderBytes}
 

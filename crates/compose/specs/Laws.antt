@@ -1,5 +1,5 @@
 -- What a composed stamp is.
-use Rattle.std.specs.Prelude.{◌≡◌, ℕ, ◌≤◌, List, [], ◌∷◌, length, None}
+use Rattle.std.specs.Prelude.{◌≡◌, ◌≤◌, [], ◌∷◌, length, None}
 use Rattle.der.specs.Trees.{Valid, encode}
 use Rattle.model.specs.Parts.{attribute_tree, Signer}
 use Rattle.model.specs.Files.{File, file_tree}

@@ -1,5 +1,5 @@
 -- What a stamp takes over from a token.
-use Rattle.std.specs.Prelude.{◌≡◌, ℕ, List}
+use Rattle.std.specs.Prelude.{◌≡◌}
 use Rattle.model.specs.Parts.{Signer}
 use Rattle.model.specs.Files.{File}
 use Rattle.stamp_model.specs.Covering.{six_bytes}

@@ -1,5 +1,5 @@
 -- What is read of a file's content and a given one, where the source of the file's content is found.
-use Rattle.std.proofs.Common.{◌≡◌, ℕ, List, Some, None, Ok, Err, Option, Result, sym, refl, ap, ◌∙◌, subst, arith}
+use Rattle.std.proofs.Common.{◌≡◌, ℕ, List, Some, None, Ok, Err, Option, Result, sym, refl, subst, arith}
 use Rattle.fields.specs.Placed.{mapped}
 use Rattle.content.specs.declared.contents.FileContent.{FileContent}
 use Rattle.content.specs.Few.{few_content}

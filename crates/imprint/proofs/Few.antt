@@ -1,8 +1,8 @@
 -- An imprint input of a file is far shorter than what a digest takes.
-use Rattle.std.proofs.Common.{ℕ, ◌+◌, ◌≤◌, Bool, true, false, cond, ltb, List, [], ◌∷◌, length, arith}
+use Rattle.std.proofs.Common.{ℕ, ◌≤◌, Bool, true, false, cond, ltb, List, [], ◌∷◌, length, arith}
 use Rattle.std.proofs.lemmas.List.{length-append}
 use Rattle.der.specs.Trees.{Tree, Forest, none, more, length_bytes, encode, encodes}
-use Rattle.model.specs.Parts.{maybe, unsigned_tree, Signer, six_fields}
+use Rattle.model.specs.Parts.{maybe, unsigned_tree, six_fields}
 use Rattle.model.specs.Files.{content_type_tree}
 use Rattle.message.proofs.SignerParts.{six_trees}
 use Rattle.stamp_model.specs.Covering.{six_bytes}

@@ -1,7 +1,7 @@
 -- A worked sample: the imprint input of a small detached file whose content is the text abc, under SHA-256, with an index of no entries.
 use Rattle.std.specs.Prelude.{◌≡◌, ℕ, List, [], ◌∷◌, ◌++◌, None}
 use Rattle.der.specs.Spans.{part}
-use Rattle.der.specs.Trees.{leaf, node, none, more}
+use Rattle.der.specs.Trees.{leaf, node, none}
 use Rattle.model.specs.Parts.{Attribute, issuer, Signer, detached}
 use Rattle.model.specs.Files.{File, file_bytes}
 use Rattle.stamp_model.specs.Covering.{input_of}

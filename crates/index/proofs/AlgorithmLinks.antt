@@ -1,12 +1,12 @@
 -- The reading of an algorithm breaks off where its rule breaks, and what it gives lies where the tree says.
-use Rattle.std.proofs.Common.{◌≡◌, ℕ, ◌+◌, ◌-◌, Bool, true, false, cond, ◌&&◌, eqb, ltb, List, is_some, Some, None, Ok, Err, Option, Result, sym, refl, ap, ◌∙◌, arith}
+use Rattle.std.proofs.Common.{◌≡◌, ℕ, ◌+◌, ◌-◌, Bool, true, false, cond, ◌&&◌, eqb, ltb, List, is_some, Some, None, Ok, Option, Result, sym, refl, ap, ◌∙◌, arith}
 use Rattle.std.proofs.lemmas.Bool.{cond-true, cond-false, cond_both, eqb-true, eqb-false, lt-ltb, le-ltb}
 use Rattle.der.specs.declared.span.Span.{Span}
-use Rattle.der.specs.Trees.{Tree, Forest, none, more, tag_of}
-use Rattle.fields.specs.Reads.{◌>>=◌, is, if_tagged, expect_of, optional_of, finish_of, maybe_of, behind, span_stop, broke}
-use Rattle.fields.specs.Placed.{located, Placed, span_of, placed_from, nth, if_first, mapped}
+use Rattle.der.specs.Trees.{Forest, none, more, tag_of}
+use Rattle.fields.specs.Reads.{◌>>=◌, is, if_tagged, expect_of, finish_of, maybe_of, behind, span_stop, broke}
+use Rattle.fields.specs.Placed.{located, span_of, placed_from, nth, mapped}
 use Rattle.fields.specs.Rules.{parts_of, head_size, body_size, nothing, free, field}
-use Rattle.fields.proofs.Steps.{Gives, gives_ok, gives_err, gives_then, ok_same}
+use Rattle.fields.proofs.Steps.{Gives, gives_ok, gives_err, gives_then}
 use Rattle.fields.proofs.Tags.{seq}
 use Rattle.fields.proofs.Standing.{At, none_read, first_read, rest_at, inside_at}
 use Rattle.fields.proofs.Links.{or_none, link_end, link_field, link_nothing}
@@ -14,7 +14,7 @@ use Rattle.fields.proofs.Places.{lie_check, lie_field, lie_maybe}
 use Rattle.cms.proofs.Served.{served}
 use Rattle.index.specs.declared.located.AlgorithmParts.{AlgorithmParts}
 use Rattle.index.specs.Records.{empty_in, null_of, algorithm_in, algorithm_of}
-use Rattle.index.specs.Grammar.{is_null, parameters, algorithm}
+use Rattle.index.specs.Grammar.{parameters, algorithm}
 use Rattle.index.specs.Places.{algorithm_from, algorithm_at}
 
 -- parameters that end where they should

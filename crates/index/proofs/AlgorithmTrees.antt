@@ -1,10 +1,10 @@
 -- An element has no break exactly when it is an algorithm.
-use Rattle.std.proofs.Common.{◌≡◌, ℕ, ◌+◌, ◌-◌, Bool, true, false, cond, ◌&&◌, eqb, List, [], ◌∷◌, length, Some, None, sym, refl, ap, ◌∙◌, arith}
+use Rattle.std.proofs.Common.{◌≡◌, ℕ, ◌-◌, Bool, true, false, ◌&&◌, eqb, List, [], ◌∷◌, length, None, sym, refl, ap, ◌∙◌, arith}
 use Rattle.std.proofs.lemmas.Bool.{eqb-true}
-use Rattle.der.specs.Trees.{Tree, leaf, node, Forest, none, more, Valid, Valids, tag_of, body_of}
+use Rattle.der.specs.Trees.{Tree, Forest, none, more, Valid, Valids, tag_of, body_of}
 use Rattle.fields.specs.Reads.{is}
 use Rattle.fields.specs.Rules.{parts_of, body_size, free}
-use Rattle.model.proofs.Unbroken.{some_not_none, cond_none, nothing_none, node_of, leaf_of, leaf_first}
+use Rattle.model.proofs.Unbroken.{cond_none, nothing_none, node_of, leaf_of, leaf_first}
 use Rattle.model.proofs.Signing.{bit_30}
 use Rattle.stamp_model.specs.Algorithms.{Algorithm, null_part, algorithm_tree}
 use Rattle.index.specs.Grammar.{is_null, parameters, algorithm}

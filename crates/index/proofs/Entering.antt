@@ -1,11 +1,11 @@
 -- Entries put one behind another, one for each element that is read.
-use Rattle.std.proofs.Common.{◌≡◌, ℕ, ◌+◌, ◌*◌, ◌<◌, ◌≤◌, List, [], ◌∷◌, ◌++◌, map, length, sym, refl, ap, ◌∙◌, subst, mul-le-mul_right, add-mul, arith}
+use Rattle.std.proofs.Common.{◌≡◌, ℕ, ◌+◌, ◌*◌, ◌<◌, ◌≤◌, List, [], ◌∷◌, ◌++◌, length, sym, refl, ap, ◌∙◌, subst, mul-le-mul_right, add-mul, arith}
 use Rattle.std.proofs.lemmas.List.{append_assoc, append-nil, length-append}
 use Rattle.der.specs.Spans.{part}
 use Rattle.der.specs.Trees.{Tree, more, Valid, Valids, encode, encodes, body_of}
 use Rattle.der.proofs.Parts.{sound_of}
 use Rattle.fields.proofs.Standing.{length_encode}
-use Rattle.model.specs.Parts.{row_of, row}
+use Rattle.model.specs.Parts.{row}
 use Rattle.digest.specs.Took.{most}
 use Rattle.stamp_model.specs.Indexes.{entry_tree}
 use Rattle.index.specs.Entries.{entries_bytes}

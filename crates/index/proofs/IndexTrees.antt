@@ -1,10 +1,10 @@
 -- An element has no break exactly when it is an index.
-use Rattle.std.proofs.Common.{◌≡◌, ℕ, ◌+◌, ◌-◌, Bool, true, false, cond, List, [], ◌∷◌, Some, None, Option, sym, refl, ap, ◌∙◌, arith}
-use Rattle.der.specs.Trees.{Tree, leaf, node, Forest, none, more, Valid, Valids, tag_of}
+use Rattle.std.proofs.Common.{◌≡◌, ℕ, ◌+◌, ◌-◌, Bool, true, false, cond, List, [], ◌∷◌, Some, None, Option, sym, refl, ap, ◌∙◌}
+use Rattle.der.specs.Trees.{Tree, node, Forest, none, more, Valid, Valids, tag_of}
 use Rattle.fields.specs.Reads.{is}
-use Rattle.fields.specs.Rules.{parts_of, head_size, body_size, or_else, nothing, free, onward, field, list}
+use Rattle.fields.specs.Rules.{parts_of, head_size, body_size, or_else, nothing, free, onward, field}
 use Rattle.model.specs.Parts.{row_of, maybe}
-use Rattle.model.proofs.Unbroken.{some_not_none, cond_none, or_none, nothing_none, node_of, leaf_of, entries as entries-of, NodeFirst, node_first}
+use Rattle.model.proofs.Unbroken.{some_not_none, cond_none, or_none, nothing_none, node_of, leaf_of, entries as entries-of, node_first}
 use Rattle.model.proofs.Signing.{bit_30}
 use Rattle.stamp_model.specs.Algorithms.{Algorithm, algorithm_tree}
 use Rattle.stamp_model.specs.Indexes.{Index, entry_tree, entries_tree, index_tree}

@@ -2,7 +2,7 @@
 use Rattle.std.proofs.Common.{◌≡◌, ℕ, ◌+◌, ◌-◌, ◌≤◌, List, [], ◌∷◌, map, length, Some, None, Option, sym, refl, ap, ◌∙◌, subst, arith}
 use Rattle.std.proofs.lemmas.List.{append-nil}
 use Rattle.der.specs.Spans.{part}
-use Rattle.der.specs.Trees.{Tree, node, Forest, none, more, Valid, Constructed, encode}
+use Rattle.der.specs.Trees.{Tree, node, Forest, more, Valid, Constructed, encode}
 use Rattle.fields.specs.Placed.{Placed, placed_from, nth, entries_for}
 use Rattle.fields.specs.Rules.{head_size, body_size}
 use Rattle.fields.proofs.Standing.{At, front_at}

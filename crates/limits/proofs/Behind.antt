@@ -1,9 +1,8 @@
 -- The place behind elements that are read is the place behind their trees.
-use Rattle.std.proofs.Common.{◌≡◌, ℕ, zero, suc, ◌+◌, ◌-◌, ◌<◌, ◌≤◌, leb, List, Some, None, Ok, Err, Option, Result, sym, refl, ap, ◌∙◌, arith}
+use Rattle.std.proofs.Common.{◌≡◌, ℕ, zero, suc, ◌+◌, ◌-◌, ◌<◌, ◌≤◌, leb, List, Some, None, Ok, Err, Option, Result, sym, ap, ◌∙◌, arith}
 use Rattle.std.proofs.lemmas.Bool.{cond-true, cond-false, le-leb, lt-leb}
 use Rattle.der.specs.declared.span.Span.{Span}
 use Rattle.der.specs.Trees.{Tree, Forest, none, more}
-use Rattle.fields.specs.Reads.{any_of}
 use Rattle.fields.specs.Rules.{or_else}
 use Rattle.fields.proofs.Standing.{At, none_left, none_read, first_read, first_fits, rest_at}
 use Rattle.rules.specs.Limits.{too_many_of}

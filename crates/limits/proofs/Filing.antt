@@ -1,8 +1,7 @@
 -- The first element too many that the record of a file leads to is that of the file.
-use Rattle.std.proofs.Common.{◌≡◌, ℕ, ◌+◌, ◌-◌, List, [], length, take, drop, Some, None, Option, sym, refl, ap, ◌∙◌, arith}
+use Rattle.std.proofs.Common.{◌≡◌, ℕ, ◌-◌, List, length, Some, None, Option, sym, ◌∙◌, arith}
 use Rattle.std.proofs.lemmas.List.{take_rest, append-nil}
 use Rattle.std.specs.List.{AllByRecursion}
-use Rattle.der.specs.Spans.{part}
 use Rattle.der.specs.Trees.{Tree, node, Forest, none, more, Valid, encode}
 use Rattle.cms.specs.declared.settings.Settings.{Settings}
 use Rattle.fields.specs.Placed.{Placed, span_of, placed_from, nth, if_first, past, mapped, entries_for}

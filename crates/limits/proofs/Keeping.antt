@@ -4,7 +4,7 @@ use Rattle.std.specs.List.{AllByRecursion}
 use Rattle.der.specs.Trees.{Tree}
 use Rattle.fields.specs.Rules.{or_else}
 use Rattle.model.specs.Parts.{row_of, attribute_tree, signed_tree, unsigned_tree, Signer, signer_tree}
-use Rattle.model.specs.Files.{File, certificates_tree, revocations_tree, signers_tree}
+use Rattle.model.specs.Files.{certificates_tree, revocations_tree, signers_tree}
 use Rattle.model.specs.Shapes.{IfThere}
 use Rattle.rules.specs.Offsets.{behind, inside, signed_at, unsigned_at, certificates_at, revocations_at, signers_at}
 use Rattle.rules.specs.Limits.{too_many_of, most_signers, most_entries, too_many_in, too_many_attributes, too_many_signers, first_too_many_of}

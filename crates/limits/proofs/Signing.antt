@@ -1,9 +1,9 @@
 -- The first element too many among signers that are read is that among the signers of a file.
-use Rattle.std.proofs.Common.{◌≡◌, ℕ, zero, suc, ◌+◌, ◌-◌, List, [], ◌∷◌, Some, None, Ok, Err, Option, Result, sym, refl, ap, ◌∙◌, arith}
+use Rattle.std.proofs.Common.{◌≡◌, ℕ, zero, suc, ◌+◌, ◌-◌, List, [], ◌∷◌, Some, None, Ok, Err, Option, Result, refl, ap, ◌∙◌, arith}
 use Rattle.std.specs.List.{AllByRecursion}
 use Rattle.der.specs.declared.span.Span.{Span}
 use Rattle.der.specs.Trees.{Tree, Forest, none, more, Constructed, tag_of}
-use Rattle.fields.specs.Placed.{Placed, placed_from, if_first, mapped, entries_for}
+use Rattle.fields.specs.Placed.{placed_from, if_first, mapped, entries_for}
 use Rattle.cms.specs.Places.{signer_at}
 use Rattle.fields.specs.Reads.{◌>>=◌, is, tagged, broke}
 use Rattle.cms.specs.Records.{signer_in, signer_of, signer_stop}

@@ -1,14 +1,13 @@
 -- Rows, put one behind another and counted.
-use Rattle.std.proofs.Common.{◌≡◌, ℕ, ◌+◌, ◌-◌, ◌<◌, ◌≤◌, List, [], ◌∷◌, ◌++◌, length, get_or, take, drop, set, sym, refl, ap, ◌∙◌, arith}
-use Rattle.std.proofs.lemmas.List.{drop_more, drop_all, append_assoc, append-nil, length-append}
+use Rattle.std.proofs.Common.{◌≡◌, ℕ, ◌+◌, ◌<◌, ◌≤◌, List, [], ◌∷◌, ◌++◌, length, get_or, drop, set, sym, refl, ap, ◌∙◌, arith}
+use Rattle.std.proofs.lemmas.List.{drop_more, drop_all}
 use Rattle.der.specs.Trees.{Tree, encode}
 use Rattle.stamp_model.specs.declared.lists.ListName.{ListName}
 use Rattle.index.specs.Puts.{Put}
 use Rattle.index.proofs.Areas.{set_put, put_then, put_same}
 use Rattle.matching.specs.declared.row.Side.{Side}
-use Rattle.matching.specs.declared.row.Side.TheVariants.{Outside, Inside}
 use Rattle.matching.specs.declared.row.Row.{Row}
-use Rattle.matching.specs.Rows.{side_for, rows_from, inside_told_by, outside_by, inside_in, outside_in}
+use Rattle.matching.specs.Rows.{side_for, rows_from, inside_told_by, inside_in}
 
 -- one more row is counted
 pub counted_more : (rows : List Row) (k : ℕ) (d : Row) (n m total : ℕ) → k < length rows → m ≡ inside_told_by (get_or rows k d).side → n + inside_in (drop k rows) ≡ total →

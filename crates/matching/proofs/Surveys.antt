@@ -6,7 +6,7 @@ use Rattle.stamp_model.specs.declared.lists.ListName.{ListName}
 use Rattle.stamp_model.specs.declared.lists.ListName.TheVariants.{Certificates, Revocations, Attributes}
 use Rattle.stamp_model.specs.Indexes.{Index, entries_for}
 use Rattle.index.specs.declared.elements.ElementLists.{ElementLists}
-use Rattle.index.specs.Puts.{Put, Written}
+use Rattle.index.specs.Puts.{Put}
 use Rattle.index.specs.Standing.{elements_for, entry_trees}
 use Rattle.index.proofs.Areas.{put_then, put_same, put_whole}
 use Rattle.matching.specs.declared.row.Side.{Side}

@@ -9,7 +9,6 @@ use Rattle.stamp_model.specs.Indexes.{Index, entries_for}
 use Rattle.stamp_model.specs.Covering.{Matched}
 use Rattle.index.specs.declared.elements.ElementLists.{ElementLists}
 use Rattle.matching.specs.declared.row.Side.TheVariants.{Inside}
-use Rattle.matching.specs.declared.row.Row.{Row}
 use Rattle.matching.specs.declared.unmatched.Unmatched.{Unmatched}
 use Rattle.matching.specs.Rows.{side_for, rows_of, inside_in, outside_in}
 use Rattle.matching.specs.Unmatched.{first_unmatched_of}

@@ -1,7 +1,7 @@
 -- A message within its limits is one, and has no fault.
-use Rattle.std.proofs.Common.{◌≡◌, ℕ, ◌<◌, ◌≤◌, List, [], ◌∷◌, ◌++◌, length, take, Some, None, Option, sym, refl, ap, ◌∙◌, subst, arith}
+use Rattle.std.proofs.Common.{◌≡◌, ℕ, ◌<◌, List, [], length, Some, None, Option, sym, ap, ◌∙◌, arith}
 use Rattle.std.proofs.lemmas.List.{append-nil, take_all}
-use Rattle.der.specs.Trees.{Tree, Valid, Starts, encode}
+use Rattle.der.specs.Trees.{Tree, Starts}
 use Rattle.der.proofs.Unique.{no_fault_at, same_tree}
 use Rattle.cms.specs.declared.settings.Settings.{Settings}
 use Rattle.cms.specs.Grammar.{first_break}
@@ -10,7 +10,7 @@ use Rattle.model.proofs.Keeping.{file_has_no_break}
 use Rattle.model.proofs.Single.{one_file}
 use Rattle.rules.specs.Limits.{first_too_many_of}
 use Rattle.message.specs.declared.fault.MessageFault.TheVariants.{Element, Field, Count}
-use Rattle.message.specs.Formed.{Formed, Within, BrokenAt}
+use Rattle.message.specs.Formed.{Formed, BrokenAt}
 use Rattle.message.specs.Laws.{OneFormed, NeverBoth}
 
 pub one_formed : OneFormed

@@ -1,7 +1,7 @@
 -- The parts of a message lie where its record says.
-use Rattle.std.proofs.Common.{◌≡◌, ℕ, ◌+◌, ◌-◌, ◌≤◌, List, [], ◌∷◌, ◌++◌, length, Some, None, Option, sym, refl, ap, ◌∙◌, subst, arith}
+use Rattle.std.proofs.Common.{◌≡◌, ℕ, ◌+◌, ◌-◌, List, [], ◌∷◌, length, Some, None, Option, sym, refl, ap, ◌∙◌, subst, arith}
 use Rattle.std.proofs.lemmas.List.{append-nil}
-use Rattle.der.specs.Trees.{Tree, leaf, node, Forest, none, more, Valid, Constructed, encode}
+use Rattle.der.specs.Trees.{Tree, leaf, node, Forest, none, more, Constructed}
 use Rattle.fields.proofs.Tags.{seq, set, field_zero, field_one}
 use Rattle.cms.specs.declared.located.Message.{Message}
 use Rattle.cms.specs.Identifiers.{signed_data_id}
@@ -9,9 +9,9 @@ use Rattle.fields.specs.Placed.{Placed, placed_from, nth, past, if_first, mapped
 use Rattle.cms.specs.Places.{message_at}
 use Rattle.fields.specs.Rules.{head_size, body_size}
 use Rattle.fields.proofs.Standing.{At, rest_at, inside_at, first_bytes}
-use Rattle.model.specs.Parts.{row_of, row, maybe, Signer, signer_tree, content_parts}
+use Rattle.model.specs.Parts.{row_of, row, maybe, signer_tree, content_parts}
 use Rattle.model.specs.Files.{File, certificates_tree, revocations_tree, content_type_tree, content_info_tree, signers_tree, signed_data_tree, file_tree, file_bytes}
-use Rattle.rules.specs.Offsets.{behind, inside, skip_maybe, data_at, certificates_at, revocations_at, signers_at}
+use Rattle.rules.specs.Offsets.{behind, inside, skip_maybe, data_at, certificates_at, signers_at}
 use Rattle.rules.specs.Signers.{Signers}
 use Rattle.cms.specs.declared.settings.Settings.{Settings}
 use Rattle.message.specs.Formed.{Formed}

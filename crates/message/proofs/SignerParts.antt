@@ -1,12 +1,10 @@
 -- The six fields of a signer, and what stands behind them.
-use Rattle.std.proofs.Common.{◌≡◌, ℕ, ◌+◌, ◌-◌, List, [], ◌∷◌, Some, None, Option, sym, refl, ap, ◌∙◌, subst, arith}
-use Rattle.der.specs.Spans.{part}
-use Rattle.der.specs.Trees.{Tree, leaf, node, Forest, none, more, encodes}
+use Rattle.std.proofs.Common.{ℕ, ◌+◌, ◌-◌, List, [], ◌∷◌, sym, refl, subst, arith}
+use Rattle.der.specs.Trees.{Tree, leaf, node, Forest, none, more}
 use Rattle.fields.specs.Rules.{head_size, body_size}
 use Rattle.fields.proofs.Standing.{At, none_at, first_at, rest_at, inside_at, joined_at}
 use Rattle.fields.proofs.Tags.{seq}
 use Rattle.cms.specs.declared.located.Signer.{Signer as Located}
-use Rattle.cms.specs.Places.{signer_at}
 use Rattle.model.specs.Parts.{row, maybe, Signer, version_tree, identifier_tree, algorithm_tree, signed_tree, unsigned_tree, six_fields, signer_tree}
 use Rattle.rules.specs.Offsets.{skip}
 use Rattle.message.specs.Lies.{SignerLies}

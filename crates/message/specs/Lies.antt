@@ -3,12 +3,11 @@ use Rattle.std.specs.Prelude.{◌≡◌, ℕ, List, length, Some, None, Option}
 use Rattle.der.specs.Spans.{part}
 use Rattle.der.specs.Trees.{Tree, more, none, encode}
 use Rattle.fields.specs.declared.located.Entries.{Entries}
-use Rattle.fields.specs.Placed.{Placed}
 use Rattle.fields.specs.Stands.{At}
 use Rattle.cms.specs.declared.located.Message.{Message}
 use Rattle.cms.specs.declared.located.Signer.{Signer as Located}
 use Rattle.cms.specs.Places.{signer_at}
-use Rattle.model.specs.Parts.{given, row, Signer, signer_tree}
+use Rattle.model.specs.Parts.{row, Signer, signer_tree}
 use Rattle.model.specs.Files.{File, content_type_tree, signers_tree}
 use Rattle.rules.specs.Offsets.{behind, inside, signers_at}
 use Rattle.rules.specs.Signers.{Signers}

@@ -1,8 +1,7 @@
 -- Messages in which no break is found are files.
-use Rattle.std.proofs.Common.{◌≡◌, ℕ, ◌+◌, ◌-◌, ◌<◌, Bool, true, false, cond, ◌||◌, eqb, ◌⊎◌, List, [], ◌∷◌, length, Some, None, Option, sym, refl, ap, ◌∙◌, subst, inl, inr, arith}
+use Rattle.std.proofs.Common.{◌≡◌, ℕ, ◌+◌, ◌-◌, Bool, true, false, cond, ◌||◌, eqb, ◌⊎◌, List, [], ◌∷◌, Some, None, Option, sym, refl, ap, ◌∙◌, subst, inl, inr, arith}
 use lib.Bits.{bit_and}
 use Rattle.std.proofs.lemmas.Slice.Eq.{bytes_eq-Decides}
-use Rattle.std.proofs.lemmas.Bool.{eqb-true}
 use Rattle.std.specs.List.{AllByRecursion}
 use Rattle.std.specs.Str.{bytes_eq}
 use Rattle.der.specs.Trees.{Tree, leaf, node, Forest, none, more, Valid, Valids, tag_of}
@@ -14,11 +13,11 @@ use Rattle.cms.specs.declared.settings.SignerCount.TheVariants.{AtLeastOne, Exac
 use Rattle.cms.specs.declared.settings.ContentForm.{ContentForm}
 use Rattle.cms.specs.declared.settings.ContentForm.TheVariants.{Any, TimeStampInfo}
 use Rattle.cms.specs.declared.settings.Settings.{Settings}
-use Rattle.fields.specs.Rules.{parts_of, head_size, body_size, Tags, Rule, nothing, free, field, optional, list, some, choose, follow, one}
-use Rattle.cms.specs.Grammar.{signer, signers_by, signers, revocations, certificates, content, by_content_type, content_info, data_fields, by_data_version, signed_data, message_fields, by_identifier, message, first_break, surplus_at}
+use Rattle.fields.specs.Rules.{parts_of, head_size, Tags, Rule, nothing, free, field, optional, list, follow, one}
+use Rattle.cms.specs.Grammar.{signer, signers_by, signers, revocations, certificates, content, by_content_type, content_info, data_fields, by_data_version, signed_data, message_fields, by_identifier, message, first_break}
 use Rattle.model.specs.Parts.{row_of, row, maybe, Signer, signer_tree, Content, detached, plain, segmented, segment_tree, content_parts}
 use Rattle.model.specs.Files.{File, certificates_tree, revocations_tree, signed_data_tree, file_tree}
-use Rattle.model.specs.Shapes.{SignerShape, SignersShape, IfThere, AllowedTags, IsPlain, ContentShape, data_version, Shape}
+use Rattle.model.specs.Shapes.{SignerShape, SignersShape, IfThere, AllowedTags, ContentShape, data_version, Shape}
 use Rattle.model.proofs.Unbroken.{some_not_none, cond_none, or_none, First, field_none, nothing_none, node_of, leaf_of, entries, some_entries, NodeFirst, node_first, node_maybe, leaf_first, LeafFirst, LeafChosen, leaf_chosen}
 use Rattle.model.proofs.Signing.{bit_30, bit_31, bit_a0, bit_a1, one_is, signer_of_lem}
 

@@ -1,22 +1,22 @@
 -- A file of the shape has no break.
-use Rattle.std.proofs.Common.{◌≡◌, ℕ, ◌+◌, ◌-◌, ◌<◌, Bool, true, false, cond, ◌||◌, eqb, List, [], ◌∷◌, length, Some, None, Option, sym, refl, ap, ◌∙◌, subst, arith}
+use Rattle.std.proofs.Common.{◌≡◌, ℕ, ◌+◌, ◌<◌, Bool, true, cond, List, [], ◌∷◌, length, Some, None, Option, refl, ap, ◌∙◌, arith}
 use Rattle.std.specs.List.{AllByRecursion}
 use Rattle.std.specs.Str.{bytes_eq}
 use Rattle.std.proofs.lemmas.Slice.Eq.{bytes_eq-Decides}
 use Rattle.der.specs.Trees.{Tree, leaf, node, Forest, none, more, Valid, tag_of}
 use Rattle.fields.specs.Reads.{is}
-use Rattle.cms.specs.Records.{certificate_tags, revocation_tags, octet_tags}
-use Rattle.cms.specs.Identifiers.{signed_data_id, time_stamp_info_id}
+use Rattle.cms.specs.Records.{certificate_tags, revocation_tags}
+use Rattle.cms.specs.Identifiers.{time_stamp_info_id}
 use Rattle.cms.specs.declared.settings.SignerCount.{SignerCount}
 use Rattle.cms.specs.declared.settings.SignerCount.TheVariants.{AtLeastOne, ExactlyOne, Nobody}
 use Rattle.cms.specs.declared.settings.ContentForm.{ContentForm}
 use Rattle.cms.specs.declared.settings.ContentForm.TheVariants.{Any, TimeStampInfo}
 use Rattle.cms.specs.declared.settings.Settings.{Settings}
-use Rattle.fields.specs.Rules.{parts_of, head_size, body_size, or_else, Tags, Rule, nothing, free, field, optional, list, some, choose, follow, one}
-use Rattle.cms.specs.Grammar.{any, attribute, unsigned_attributes, from_signed, signer_fields, signer, signers_by, signers, revocations, certificates, content, by_content_type, content_info, data_fields, by_data_version, signed_data, message_fields, message, first_break}
+use Rattle.fields.specs.Rules.{parts_of, head_size, body_size, or_else, Tags, Rule, nothing, free, field, optional, list, some, follow}
+use Rattle.cms.specs.Grammar.{any, attribute, unsigned_attributes, signer, signers_by, revocations, certificates, content, content_info, data_fields, by_data_version, first_break}
 use Rattle.model.specs.Parts.{row_of, row, maybe, Attribute, attribute_tree, Identifier, issuer, key, Signer, unsigned_tree, signer_tree, Content, detached, plain, segmented, segment_tree, content_parts}
-use Rattle.model.specs.Files.{File, certificates_tree, revocations_tree, content_info_tree, signers_tree, signed_data_tree, file_tree}
-use Rattle.model.specs.Shapes.{AttributeShape, UnsignedShape, SignerShape, SignersShape, IfThere, AllowedTags, IsPlain, ContentShape, data_version, Shape}
+use Rattle.model.specs.Files.{File, certificates_tree, revocations_tree, file_tree}
+use Rattle.model.specs.Shapes.{AttributeShape, UnsignedShape, SignerShape, SignersShape, IfThere, AllowedTags, ContentShape, data_version, Shape}
 
 both : (a b : Option ℕ) → a ≡ None → b ≡ None → or_else a b ≡ None
 both a b p q = ap (λ (x : Option ℕ). or_else x b) p ∙ q

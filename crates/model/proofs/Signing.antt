@@ -1,13 +1,13 @@
 -- Attributes and signers in which no break is found.
-use Rattle.std.proofs.Common.{◌≡◌, ℕ, ◌+◌, ◌-◌, ◌<◌, Bool, true, false, cond, eqb, ◌⊎◌, List, [], ◌∷◌, length, Some, None, Option, sym, refl, ap, ◌∙◌, subst, inl, inr, arith, lit<}
+use Rattle.std.proofs.Common.{◌≡◌, ℕ, ◌-◌, ◌<◌, Bool, true, false, cond, ◌⊎◌, List, [], ◌∷◌, length, Some, None, Option, sym, refl, ap, ◌∙◌, inl, inr, arith}
 use lib.Bits.{bit_and}
 use Rattle.std.proofs.lemmas.Bool.{eqb-true}
 use Rattle.std.specs.List.{AllByRecursion}
 use Rattle.der.specs.Trees.{Tree, leaf, node, Forest, none, more, Valid, Valids, tag_of}
 use Rattle.fields.specs.Reads.{is}
-use Rattle.fields.specs.Rules.{parts_of, Rule, nothing, free, field, optional, list, some, choose, follow, one}
+use Rattle.fields.specs.Rules.{parts_of, nothing, free, field, list, some, follow, one}
 use Rattle.cms.specs.Grammar.{any, attribute, unsigned_attributes, from_signature, from_signed, signer_fields, by_version, signer}
-use Rattle.model.specs.Parts.{row_of, row, maybe, Attribute, attribute_tree, Identifier, issuer, key, version_tree, identifier_tree, Algorithm, algorithm_tree, Signer, signed_tree, unsigned_tree, six_fields, signer_tree}
+use Rattle.model.specs.Parts.{row_of, row, maybe, Attribute, attribute_tree, Identifier, issuer, key, version_tree, identifier_tree, Algorithm, algorithm_tree, Signer, signed_tree, unsigned_tree, signer_tree}
 use Rattle.model.specs.Shapes.{AttributeShape, UnsignedShape, SignerShape, IfThere}
 use Rattle.model.proofs.Unbroken.{some_not_none, field_none, nothing_none, node_of, entries, some_entries, elements_of_lem, NodeFirst, LeafFirst, LeafChosen, node_first, node_maybe, leaf_first, leaf_chosen}
 

@@ -1,9 +1,9 @@
 -- The bytes of a file determine it.
-use Rattle.std.proofs.Common.{◌≡◌, ℕ, List, [], ◌∷◌, ◌++◌, Some, None, Option, sym, refl, ap, ◌∙◌, arith}
+use Rattle.std.proofs.Common.{◌≡◌, ℕ, List, [], ◌∷◌, Some, None, Option, sym, refl, ap, ◌∙◌, arith}
 use Rattle.std.proofs.lemmas.List.{append-nil}
-use Rattle.der.specs.Trees.{Tree, leaf, node, Forest, none, more, Valid, tag_of, encode}
+use Rattle.der.specs.Trees.{Tree, node, Forest, none, more, Valid, tag_of}
 use Rattle.der.proofs.Unique.{same_tree}
-use Rattle.model.specs.Parts.{row_of, row, maybe, Attribute, attribute_tree, Identifier, issuer, key, version_tree, identifier_tree, Algorithm, algorithm_tree, Signer, signed_tree, unsigned_tree, six_fields, signer_tree, Content, detached, plain, segmented, segment_tree, content_parts}
+use Rattle.model.specs.Parts.{row_of, row, maybe, Attribute, attribute_tree, Identifier, issuer, key, version_tree, identifier_tree, Algorithm, algorithm_tree, Signer, unsigned_tree, signer_tree, Content, detached, plain, segmented, segment_tree, content_parts}
 use Rattle.model.specs.Files.{File, certificates_tree, revocations_tree, signers_tree, signed_data_tree, file_tree, file_bytes}
 
 -- what the first element of a forest is, and what is behind it

@@ -5,7 +5,7 @@ use Rattle.std.proofs.lemmas.Bool.{eqb-true}
 use Rattle.std.specs.List.{AllByRecursion}
 use Rattle.der.specs.Trees.{Tree, leaf, node, Forest, none, more, Valid, Valids, tag_of, body_of}
 use Rattle.fields.specs.Reads.{is}
-use Rattle.fields.specs.Rules.{parts_of, head_size, body_size, or_else, Rule, Tags, nothing, free, onward, field, optional, list, some, choose, follow}
+use Rattle.fields.specs.Rules.{parts_of, head_size, body_size, or_else, Rule, Tags, nothing, onward, field, optional, list, some, choose, follow}
 use Rattle.model.specs.Parts.{row_of}
 
 pub some_not_none : {A : Type 0} (x : A) → ◌≡◌ {A = Option A} (Some x) None → ⊥

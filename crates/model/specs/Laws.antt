@@ -1,6 +1,6 @@
 -- The laws of files: a message has no break exactly when it is a file of its shape, and that file is one.
-use Rattle.std.specs.Prelude.{◌≡◌, ℕ, List, [], None}
-use Rattle.der.specs.Trees.{Tree, Valid, encode}
+use Rattle.std.specs.Prelude.{◌≡◌, ℕ, [], None}
+use Rattle.der.specs.Trees.{Tree, Valid}
 use Rattle.cms.specs.Grammar.{first_break}
 use Rattle.cms.specs.declared.settings.Settings.{Settings}
 use Rattle.model.specs.Files.{File, file_tree, file_bytes}

@@ -1,7 +1,7 @@
 -- What a file's parts keep besides their form: tags that are allowed, and at least one where one has to be.
 use Rattle.std.specs.Prelude.{◌≡◌, ℕ, ◌<◌, Bool, true, ◌||◌, List, [], length, Some, None, Option, ◌==◌}
 use Rattle.std.specs.List.{AllByRecursion}
-use Rattle.der.specs.Trees.{Tree, Valid, tag_of}
+use Rattle.der.specs.Trees.{Tree, tag_of}
 use Rattle.cms.specs.Identifiers.{time_stamp_info_id}
 use Rattle.cms.specs.Records.{certificate_tags, revocation_tags}
 use Rattle.cms.specs.declared.settings.SignerCount.{SignerCount}
@@ -10,7 +10,7 @@ use Rattle.cms.specs.declared.settings.ContentForm.{ContentForm}
 use Rattle.cms.specs.declared.settings.ContentForm.TheVariants.{Any, TimeStampInfo}
 use Rattle.cms.specs.declared.settings.Settings.{Settings}
 use Rattle.model.specs.Parts.{Attribute, Signer, Content, detached, plain, segmented}
-use Rattle.model.specs.Files.{File, file_tree}
+use Rattle.model.specs.Files.{File}
 
 abbrev pub IfThere : {M : Type 0} → (M → Type 0) → Option M → Type 0
 IfThere Keeps None = Unit {0}

@@ -1,19 +1,17 @@
 -- What is answered of an accepted file is told by it.
-use Rattle.std.proofs.Common.{◌≡◌, ℕ, ◌<◌, ◌≤◌, List, [], ◌∷◌, ◌++◌, length, take, drop, Some, None, Ok, Err, Option, Result, sym, refl, ap, ◌∙◌, subst, arith}
-use Rattle.model.specs.Parts.{Signer}
-use Rattle.model.specs.Files.{File, file_tree, file_bytes}
+use Rattle.std.proofs.Common.{◌≡◌, ℕ, List, take, Some, None, Ok, Err, Option, Result, sym, ap, ◌∙◌, arith}
+use Rattle.model.specs.Files.{File}
 use Rattle.rules.specs.Attributes.{broken_rule_of}
 use Rattle.message.specs.declared.fault.MessageFault.{MessageFault}
 use Rattle.message.specs.declared.fault.MessageFault.TheVariants.{Element as Misformed, Field as Misfield, Count as Overfull}
 use Rattle.message.specs.Formed.{Faulty}
 use Rattle.message.proofs.Exact.{one_formed as message-one, never_both}
-use Rattle.rules.specs.Limits.{first_too_many_of}
 use Rattle.opening.specs.declared.answers.Reading.{Reading}
 use Rattle.opening.specs.declared.refusal.Refusal.{Refusal}
 use Rattle.opening.specs.declared.refusal.Refusal.TheVariants.{Length, Element, Field, Count, Rule, NoSigner, NoList, AddedElement, AddedField, Barred, Content, NoStamp, Malformed, OtherDigest, OtherImprint, NoElement, Equal, Room}
 use Rattle.opening.specs.Accepted.{file_settings, Fits, Formed, Accepted}
 use Rattle.opening.specs.Laws.{Outcome}
-use Rattle.opening.specs.Outcome.{Served, Refused, signer_of, reading_of}
+use Rattle.opening.specs.Outcome.{signer_of, reading_of}
 use Rattle.opening.specs.Steps.{told_of}
 
 pub one_formed : (bytes : List ℕ) (f f' : File) → Formed bytes f → Formed bytes f' → f ≡ f'

@@ -1,9 +1,8 @@
 -- Opening a file, and one of its signers.
-use Rattle.std.proofs.Common.{◌≡◌, ℕ, zero, suc, ◌+◌, ◌-◌, List, [], ◌∷◌, take, Some, None, Ok, Err, Option, Result, sym, refl, ap, ◌∙◌, subst, arith, MatchResult}
+use Rattle.std.proofs.Common.{◌≡◌, ℕ, zero, suc, ◌+◌, ◌-◌, List, [], ◌∷◌, take, Some, Ok, Err, Result, sym, refl, subst, arith, MatchResult}
 use Rattle.std.specs.List.{slice_get}
-use Rattle.der.specs.Trees.{none, more, Valids}
 use Rattle.fields.specs.Rules.{head_size, body_size}
-use Rattle.fields.proofs.Standing.{At, first_at}
+use Rattle.fields.proofs.Standing.{first_at}
 use Rattle.cms.specs.declared.located.Message.{Message}
 use Rattle.cms.specs.declared.located.Signer.{Signer as Located}
 use Rattle.cms.specs.Places.{signer_at}
@@ -17,7 +16,7 @@ use Rattle.opening.specs.declared.refusal.Refusal.{Refusal}
 use Rattle.opening.specs.declared.refusal.Refusal.TheVariants.{Length, Element, Field, Count, Rule, NoSigner, NoList, AddedElement, AddedField, Barred, Content, NoStamp, Malformed, OtherDigest, OtherImprint, NoElement, Equal, Room}
 use Rattle.opening.specs.Accepted.{Fits, Accepted}
 use Rattle.opening.specs.Steps.{AcceptedAt, RefusedFile}
-use Rattle.opening.specs.Opened.{Opens, OpensAt, Shut, SignerOpened}
+use Rattle.opening.specs.Opened.{OpensAt, Shut, SignerOpened}
 use Rattle.opening.proofs.Telling.{front_is}
 
 shut_by : (buffer : List ℕ) (n : ℕ) (e : Refusal) → Fits buffer n → RefusedFile (take n buffer) e → Shut buffer n e

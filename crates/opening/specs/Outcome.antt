@@ -1,5 +1,5 @@
 -- What `read` answers.
-use Rattle.std.specs.Prelude.{◌≡◌, ℕ, zero, suc, ◌≤◌, List, [], ◌∷◌, length, take, Some, None, Option}
+use Rattle.std.specs.Prelude.{◌≡◌, ℕ, zero, suc, List, [], ◌∷◌, length, take, Some, None, Option}
 use Rattle.der.specs.Faults.{InElement}
 use Rattle.model.specs.Parts.{given, Signer}
 use Rattle.model.specs.Files.{File}

@@ -1,22 +1,22 @@
 -- Attributes that stand in a file are read one by one.
-use Rattle.std.proofs.Common.{◌≡◌, ℕ, ◌+◌, ◌-◌, ◌<◌, ◌≤◌, Bool, true, false, cond, not, List, [], ◌∷◌, ◌++◌, length, take, drop, Some, None, Ok, Err, Option, Result, sym, refl, ap, ◌∙◌, subst, arith}
+use Rattle.std.proofs.Common.{◌≡◌, ℕ, ◌+◌, ◌-◌, ◌<◌, ◌≤◌, Bool, not, List, [], ◌∷◌, ◌++◌, length, drop, Some, None, Ok, Err, Option, Result, sym, refl, ap, ◌∙◌, subst, arith}
 use Rattle.std.specs.List.{AllByRecursion}
 use Rattle.std.proofs.lemmas.List.{append_assoc, take-append-drop}
 use Rattle.der.proofs.Parts.{part_front, part_rest}
 use Rattle.model.specs.Shapes.{AttributeShape}
 use Rattle.der.specs.declared.span.Span.{Span}
 use Rattle.der.specs.Spans.{part, element_of}
-use Rattle.der.specs.Trees.{Tree, leaf, node, Forest, none, more, Valids, encode, encodes}
+use Rattle.der.specs.Trees.{Tree, leaf, node, none, more, Valids, encode, encodes}
 use Rattle.std.specs.Str.{bytes_eq}
 use Rattle.rules.specs.Attributes.{one_value, is_content_type}
 use Rattle.cms.specs.declared.located.Attribute.{Attribute as Located}
-use Rattle.fields.specs.Placed.{Placed, located, placed_from}
+use Rattle.fields.specs.Placed.{located, placed_from}
 use Rattle.cms.specs.Places.{attribute_at}
 use Rattle.fields.specs.Reads.{broke, placed, contents_at}
 use Rattle.cms.specs.Records.{attribute_of}
 use Rattle.fields.specs.Rules.{head_size, body_size, or_else}
 use Rattle.fields.proofs.Steps.{ok_same}
-use Rattle.fields.proofs.Standing.{At, first_read, first_bytes, first_at, none_at, rest_at, inside_at, first_body, none_left, first_fits}
+use Rattle.fields.proofs.Standing.{At, first_read, first_bytes, first_at, none_at, rest_at, inside_at, first_body, none_left}
 use Rattle.cms.proofs.SignerLinks.{link_attribute_of}
 use Rattle.cms.proofs.RecordPlaces.{attribute_of_lies}
 use Rattle.model.specs.Parts.{Attribute, attribute_tree, row_of, row}

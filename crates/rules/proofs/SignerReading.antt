@@ -1,7 +1,6 @@
 -- Signers that stand in a file are read one by one.
-use Rattle.std.proofs.Common.{◌≡◌, ℕ, zero, suc, ◌+◌, ◌-◌, ◌<◌, ◌≤◌, List, [], ◌∷◌, ◌++◌, length, Some, None, Ok, Err, Option, Result, sym, refl, ap, ◌∙◌, subst, arith}
-use Rattle.der.specs.Trees.{Tree, leaf, node, Forest, none, more, encode}
-use Rattle.fields.specs.declared.located.Entries.{Entries}
+use Rattle.std.proofs.Common.{◌≡◌, ℕ, zero, suc, ◌+◌, ◌-◌, ◌<◌, List, [], ◌∷◌, Some, None, Ok, Err, Option, Result, sym, refl, ap, ◌∙◌, subst, arith}
+use Rattle.der.specs.Trees.{Tree, leaf, node, none, more}
 use Rattle.cms.specs.declared.located.Signer.{Signer as Located}
 use Rattle.fields.specs.Placed.{mapped, entries_for, if_first, placed_from}
 use Rattle.cms.specs.Places.{signer_at}
@@ -10,8 +9,8 @@ use Rattle.fields.specs.Rules.{head_size, body_size, or_else}
 use Rattle.fields.proofs.Steps.{ok_same}
 use Rattle.cms.proofs.Served.{signer_served}
 use Rattle.fields.proofs.Standing.{At, rest_at, inside_at, none_left}
-use Rattle.model.specs.Parts.{Attribute, attribute_tree, row_of, maybe, version_tree, identifier_tree, algorithm_tree, signed_tree, unsigned_tree, Identifier, issuer, key, Signer, signer_tree, six_fields}
-use Rattle.model.specs.Shapes.{SignerShape, UnsignedShape, IfThere}
+use Rattle.model.specs.Parts.{Attribute, attribute_tree, row_of, maybe, version_tree, identifier_tree, algorithm_tree, signed_tree, unsigned_tree, Signer, signer_tree, six_fields}
+use Rattle.model.specs.Shapes.{UnsignedShape, IfThere}
 use Rattle.model.proofs.Keeping.{signer_kept}
 use Rattle.rules.specs.Offsets.{behind, inside, signed_at, unsigned_at}
 use Rattle.rules.specs.Attributes.{broken_told_by, first_broken_of}

@@ -1,14 +1,13 @@
 -- What one turn over attributes tells of the place that is looked for.
-use Rattle.std.proofs.Common.{◌≡◌, ℕ, ◌+◌, ◌<◌, ◌≤◌, Bool, true, false, cond, List, [], ◌∷◌, ◌++◌, length, Some, None, Option, Result, sym, refl, ap, ◌∙◌, subst, arith}
+use Rattle.std.proofs.Common.{◌≡◌, ℕ, Bool, true, false, cond, List, [], ◌∷◌, ◌++◌, Some, None, Result, sym, refl, ap, ◌∙◌, arith}
 use Rattle.der.specs.Spans.{part}
-use Rattle.der.specs.Trees.{Tree}
 use Rattle.cms.specs.declared.located.Attribute.{Attribute as Located}
 use Rattle.cms.specs.Records.{attribute_of}
 use Rattle.model.specs.Parts.{Attribute, attribute_tree}
 use Rattle.rules.specs.Attributes.{first_faulty, first_with}
 use Rattle.rules.specs.Offsets.{behind}
 use Rattle.rules.specs.Standing.{Row}
-use Rattle.rules.proofs.Reading.{Turn, others, rows_join}
+use Rattle.rules.proofs.Reading.{Turn, others}
 
 -- the bytes and the end are those that the reader began with
 pub same_reading : (bs bs' : List ℕ) (at end end' : ℕ) (r : Result Located ℕ) → bs ≡ bs' → end ≡ end' → r ≡ attribute_of bs at end → r ≡ attribute_of bs' at end'

@@ -1,13 +1,13 @@
 -- The rules of attributes, and the place of the first that is broken.
-use Rattle.std.specs.Prelude.{ℕ, ◌+◌, Bool, true, false, cond, not, ◌&&◌, ◌||◌, List, [], ◌∷◌, ◌++◌, Some, None, Option}
+use Rattle.std.specs.Prelude.{ℕ, Bool, false, cond, not, ◌&&◌, ◌||◌, List, [], ◌∷◌, ◌++◌, Some, None, Option}
 use Rattle.std.specs.Str.{bytes_eq}
-use Rattle.der.specs.Trees.{Tree, leaf, encode, tag_of}
+use Rattle.der.specs.Trees.{Tree, encode, tag_of}
 use Rattle.fields.specs.Reads.{is}
 use Rattle.fields.specs.Rules.{or_else}
 use Rattle.model.specs.Parts.{Attribute, attribute_tree, signed_tree, unsigned_tree, Signer, signer_tree}
 use Rattle.model.specs.Files.{File, content_type_tree, signers_tree}
 use Rattle.rules.specs.declared.kinds.AttributeKind.{AttributeKind}
-use Rattle.rules.specs.declared.kinds.AttributeKind.TheVariants.{ContentType, MessageDigest, SigningCertificate, SigningCertificateV2, SignaturePolicy}
+use Rattle.rules.specs.declared.kinds.AttributeKind.TheVariants.{ContentType, MessageDigest, SigningCertificate, SigningCertificateV2}
 use Rattle.rules.specs.Kinds.{kind_bytes, signed_kinds, unsigned_kinds}
 use Rattle.rules.specs.Offsets.{behind, inside, signed_at, unsigned_at, signers_at}
 

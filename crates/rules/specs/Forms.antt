@@ -1,5 +1,5 @@
 -- The form of a signer, and whether it names a policy.
-use Rattle.std.specs.Prelude.{ℕ, Bool, cond, ◌&&◌, ◌||◌, List, [], Some, None, Option}
+use Rattle.std.specs.Prelude.{Bool, cond, ◌&&◌, ◌||◌, List, [], Some, None}
 use Rattle.model.specs.Parts.{Attribute, Signer}
 use Rattle.rules.specs.declared.kinds.AttributeKind.TheVariants.{SignaturePolicy, SignatureTimeStamp, CertificateReferences, RevocationReferences, CertificateValues, RevocationValues, CompleteTimeStamp, ReferencesTimeStamp, ArchiveStamp}
 use Rattle.rules.specs.declared.kinds.Form.{Form}

@@ -1,8 +1,8 @@
 -- Counts and their limits: the place of the first element too many.
-use Rattle.std.specs.Prelude.{ℕ, zero, suc, ◌+◌, List, [], ◌∷◌, Some, None, Option}
+use Rattle.std.specs.Prelude.{ℕ, zero, suc, List, [], ◌∷◌, Some, None, Option}
 use Rattle.der.specs.Trees.{Tree, Forest, none, more}
 use Rattle.fields.specs.Rules.{or_else}
-use Rattle.model.specs.Parts.{row, row_of, attribute_tree, Attribute, signed_tree, unsigned_tree, Signer, signer_tree}
+use Rattle.model.specs.Parts.{row_of, attribute_tree, signed_tree, unsigned_tree, Signer, signer_tree}
 use Rattle.model.specs.Files.{File, certificates_tree, revocations_tree, signers_tree}
 use Rattle.rules.specs.Offsets.{behind, inside, signed_at, unsigned_at, certificates_at, revocations_at, signers_at}
 

@@ -4,7 +4,7 @@ use Rattle.der.specs.Trees.{Tree, leaf, node, none, more}
 use Rattle.cms.specs.Identifiers.{signed_data_id}
 use Rattle.fields.specs.Rules.{head_size, body_size}
 use Rattle.model.specs.Parts.{version_tree, identifier_tree, algorithm_tree, signed_tree, Signer, signer_tree}
-use Rattle.model.specs.Files.{File, certificates_tree, revocations_tree, content_info_tree, signers_tree, signed_data_tree, file_tree}
+use Rattle.model.specs.Files.{File, certificates_tree, revocations_tree, content_info_tree, signed_data_tree, file_tree}
 
 -- the offset behind an element that begins at `p`, and that of its contents
 abbrev pub behind : ℕ → Tree → ℕ

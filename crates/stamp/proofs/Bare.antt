@@ -1,5 +1,5 @@
 -- Whether a token's signer has unsigned attributes.
-use Rattle.std.proofs.Common.{◌≡◌, ℕ, List, Some, None, Option, sym, refl, ap, ◌∙◌, subst, arith}
+use Rattle.std.proofs.Common.{◌≡◌, ℕ, List, Some, None, Option, sym, refl, ap, ◌∙◌, arith}
 use Rattle.der.specs.Trees.{none}
 use Rattle.fields.specs.declared.located.Entries.{Entries}
 use Rattle.fields.specs.Placed.{placed_from, if_first, mapped, entries_for}

@@ -1,9 +1,9 @@
 -- There is no break exactly when a signer has one unsigned attribute, of the type of indexes, with one value.
-use Rattle.std.proofs.Common.{◌≡◌, ℕ, ◌+◌, Bool, true, false, cond, List, [], ◌∷◌, Some, None, Option, sym, refl, ap, ◌∙◌, arith}
+use Rattle.std.proofs.Common.{◌≡◌, ℕ, Bool, true, false, cond, List, [], ◌∷◌, Some, None, Option, refl, ap}
 use Rattle.std.specs.Str.{bytes_eq}
 use Rattle.std.proofs.lemmas.Slice.Eq.{bytes_eq-Decides}
 use Rattle.der.specs.Trees.{Tree, leaf, node, Forest, none, more}
-use Rattle.fields.specs.Rules.{head_size, body_size, or_else, Rule, follow}
+use Rattle.fields.specs.Rules.{follow}
 use Rattle.model.specs.Parts.{row_of, row, maybe, Attribute, attribute_tree, unsigned_tree}
 use Rattle.model.proofs.Unbroken.{some_not_none, or_none}
 use Rattle.stamp_model.specs.Stamps.{index_kind}

@@ -1,5 +1,5 @@
 -- A stamp is one, and has no fault.
-use Rattle.std.proofs.Common.{◌≡◌, ℕ, ◌-◌, ◌<◌, List, [], ◌∷◌, ◌++◌, length, Some, None, Option, sym, refl, ap, ◌∙◌, subst, arith}
+use Rattle.std.proofs.Common.{◌≡◌, ℕ, ◌-◌, ◌<◌, List, [], ◌∷◌, length, Some, None, Option, sym, refl, ap, ◌∙◌, subst, arith}
 use Rattle.std.proofs.lemmas.List.{append-nil, take_all}
 use Rattle.der.specs.Trees.{Tree, none, Starts, Valid, Valids, encode}
 use Rattle.der.proofs.Unique.{no_fault_at, same_tree}
@@ -9,7 +9,7 @@ use Rattle.message.specs.declared.fault.MessageFault.TheVariants.{Element, Field
 use Rattle.message.proofs.Exact.{one_formed}
 use Rattle.stamp_model.specs.Indexes.{Index, index_tree, index_bytes}
 use Rattle.stamp_model.specs.Tokens.{Info, token_settings}
-use Rattle.stamp_model.specs.Stamps.{index_kind, carrying, Stamp, Carries}
+use Rattle.stamp_model.specs.Stamps.{index_kind, carrying, Stamp}
 use Rattle.stamp_model.proofs.Telling.{signers_valid}
 use Rattle.stamp_model.proofs.Single.{one_index, one_stamp, one_signer, only_one, only_value}
 use Rattle.index.specs.Grammar.{index_break}
@@ -20,7 +20,7 @@ use Rattle.token.specs.Tokens.{IsToken}
 use Rattle.token.proofs.Exact.{token_never_both}
 use Rattle.stamp.specs.declared.parts.StampFault.TheVariants.{Token as InToken, Carried as InCarried, Index as InIndex}
 use Rattle.stamp.specs.Grammar.{carried}
-use Rattle.stamp.specs.Indexed.{WrittenAs, IsIndex, Misfit}
+use Rattle.stamp.specs.Indexed.{WrittenAs, Misfit}
 use Rattle.stamp.specs.Stamped.{IsStamp, carried_place}
 use Rattle.stamp.specs.Laws.{NeverMisindexed, NeverBoth, NeverBurdened, OneStamp}
 use Rattle.stamp.proofs.CarriedTrees.{carried_kept}

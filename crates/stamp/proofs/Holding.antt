@@ -1,5 +1,5 @@
 -- The signer of a token carries a value, or a break is found; the value is the index, or is at fault.
-use Rattle.std.proofs.Common.{◌≡◌, ℕ, ◌+◌, ◌-◌, List, [], ◌∷◌, Some, None, Ok, Err, Option, Result, sym, refl, ap, ◌∙◌, subst}
+use Rattle.std.proofs.Common.{◌≡◌, ℕ, ◌-◌, List, [], ◌∷◌, Some, None, Ok, Err, Option, sym, refl, ap, ◌∙◌, subst}
 use Rattle.std.proofs.lemmas.List.{append-nil}
 use Rattle.der.specs.declared.span.Span.{Span}
 use Rattle.der.specs.Spans.{part}
@@ -15,8 +15,8 @@ use Rattle.message.specs.declared.fault.MessageFault.{MessageFault}
 use Rattle.message.specs.Lies.{SignerLies}
 use Rattle.message.proofs.Levels.{bytes_tree}
 use Rattle.message.proofs.SignerParts.{unsigned_stands}
-use Rattle.stamp_model.specs.Indexes.{Index, index_tree, index_bytes}
-use Rattle.stamp_model.specs.Stamps.{index_kind, carrying, Stamp}
+use Rattle.stamp_model.specs.Indexes.{index_tree}
+use Rattle.stamp_model.specs.Stamps.{index_kind}
 use Rattle.index.specs.declared.located.IndexParts.{IndexParts}
 use Rattle.token.specs.declared.parts.TokenParts.{TokenParts}
 use Rattle.token.specs.Tokens.{TokenAt}

@@ -1,10 +1,10 @@
 -- The reading of a carried index breaks off where its rules break, and what it gives lies where the trees say.
-use Rattle.std.proofs.Common.{◌≡◌, ℕ, ◌+◌, ◌-◌, List, Some, None, Ok, Err, Result, sym, refl, ap, ◌∙◌, subst}
+use Rattle.std.proofs.Common.{◌≡◌, ℕ, ◌-◌, List, Ok, Result, sym, refl, ap, ◌∙◌, subst}
 use Rattle.der.specs.declared.span.Span.{Span}
-use Rattle.der.specs.Trees.{Tree, Forest, none, more}
-use Rattle.fields.specs.Reads.{◌>>=◌, is, any_of, finish_of, broke}
-use Rattle.fields.specs.Placed.{located, Placed, span_of, placed_from, inside_of, nth}
-use Rattle.fields.specs.Rules.{parts_of, head_size, body_size, nothing}
+use Rattle.der.specs.Trees.{Forest, none, more}
+use Rattle.fields.specs.Reads.{◌>>=◌, finish_of, broke}
+use Rattle.fields.specs.Placed.{located, span_of, placed_from, inside_of, nth}
+use Rattle.fields.specs.Rules.{parts_of, nothing}
 use Rattle.fields.proofs.Steps.{Gives, gives_err}
 use Rattle.fields.proofs.Tags.{seq, set, field_one}
 use Rattle.fields.proofs.Standing.{At, none_read, first_read, rest_at, inside_at}

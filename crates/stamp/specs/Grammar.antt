@@ -1,5 +1,5 @@
 -- How a token's signer carries an index, element by element: the place of the first field that is missing, wrong or surplus.
-use Rattle.std.specs.Prelude.{ℕ, cond, List, Some, None, Option}
+use Rattle.std.specs.Prelude.{cond, Some, None}
 use Rattle.std.specs.Str.{bytes_eq}
 use Rattle.fields.specs.Reads.{is}
 use Rattle.fields.specs.Rules.{Rule, nothing, free, field, choose}

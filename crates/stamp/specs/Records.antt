@@ -1,5 +1,5 @@
 -- The index that a signer carries, field by field, as it is read from bytes.
-use Rattle.std.specs.Prelude.{ℕ, List, Ok, Err, Result}
+use Rattle.std.specs.Prelude.{ℕ, List, Ok, Result}
 use Rattle.der.specs.declared.span.Span.{Span}
 use Rattle.fields.specs.Reads.{◌>>=◌, ◌>>◌, any_of, expect_of, named_of, finish_of}
 use Rattle.stamp_model.specs.Stamps.{index_kind}

@@ -6,12 +6,11 @@ use Rattle.model.specs.Parts.{maybe, Attribute, Signer, unsigned_tree}
 use Rattle.model.specs.Files.{File, signers_tree}
 use Rattle.rules.specs.Offsets.{inside, unsigned_at, signers_at}
 use Rattle.message.specs.declared.fault.MessageFault.{MessageFault}
-use Rattle.stamp_model.specs.Indexes.{index_tree, index_bytes, IndexShape}
+use Rattle.stamp_model.specs.Indexes.{index_tree, IndexShape}
 use Rattle.stamp_model.specs.Tokens.{Info}
 use Rattle.stamp_model.specs.Stamps.{index_kind, carrying, Stamp}
 use Rattle.index.specs.Places.{index_at}
 use Rattle.token.specs.declared.parts.TokenParts.{TokenParts}
-use Rattle.token.specs.declared.parts.TokenFault.{TokenFault}
 use Rattle.token.specs.Tokens.{IsToken, LiesAsToken, NoToken}
 use Rattle.stamp.specs.declared.parts.StampParts.{StampParts}
 use Rattle.stamp.specs.declared.parts.StampFault.{StampFault}

@@ -1,16 +1,15 @@
 -- Later copies: the relations carry through, and what a stamp stands for stays.
-use Rattle.std.proofs.Common.{◌≡◌, ℕ, zero, suc, List, [], ◌∷◌, ◌++◌, map, Some, None, Option, sym, refl, ap, ◌∙◌, subst, arith}
+use Rattle.std.proofs.Common.{◌≡◌, ℕ, zero, suc, List, [], ◌∷◌, ◌++◌, map, Some, sym, refl, ap, ◌∙◌, subst, arith}
 use Rattle.std.specs.List.{ContainsAt as Has, AllZip, AllByRecursion, slice_get}
 use Rattle.std.proofs.ByRecursion.{all-has, all_has_itself, All-weaker, has_append_left}
 use Rattle.std.proofs.lemmas.List.{append-nil, append_assoc}
-use Rattle.der.specs.Trees.{Tree, leaf, none, encode, encodes}
-use Rattle.model.specs.Parts.{Attribute, attribute_tree, Identifier, Algorithm, Signer, six_fields}
+use Rattle.der.specs.Trees.{Tree, leaf, encode}
+use Rattle.model.specs.Parts.{Attribute, attribute_tree, Identifier, Algorithm, Signer}
 use Rattle.model.specs.Files.{File, content_type_tree}
 use Rattle.stamp_model.specs.declared.lists.ListName.{ListName}
 use Rattle.stamp_model.specs.declared.lists.ListName.TheVariants.{Certificates, Revocations, Attributes}
 use Rattle.stamp_model.specs.Indexes.{entries_for, index_bytes}
-use Rattle.stamp_model.specs.Stamps.{Stamp}
-use Rattle.stamp_model.specs.Covering.{given, elements_of, six_bytes, input_of, stamp_input, Matched, Covers}
+use Rattle.stamp_model.specs.Covering.{given, elements_of, six_bytes, input_of, Matched}
 use Rattle.stamp_model.specs.Later.{Keeping, Included, Begins, LaterSigner, LaterBy, AsLate, Grown}
 use Rattle.stamp_model.specs.Laws.{LateLaws, SignerStays, StampStays}
 

@@ -1,15 +1,15 @@
 -- Bytes determine an index, and an attribute determines its stamp.
-use Rattle.std.proofs.Common.{◌≡◌, ℕ, Bool, true, false, List, [], ◌∷◌, Some, None, Option, sym, refl, ap, ◌∙◌, subst, arith}
+use Rattle.std.proofs.Common.{◌≡◌, ℕ, Bool, true, false, List, [], ◌∷◌, Some, None, Option, sym, refl, ap, ◌∙◌, arith}
 use Rattle.std.proofs.lemmas.List.{append-nil}
-use Rattle.der.specs.Trees.{Tree, leaf, node, Forest, none, more, Valid, encode}
+use Rattle.der.specs.Trees.{Tree, none, more, Valid, encode}
 use Rattle.der.proofs.Unique.{same_tree}
 use Rattle.model.specs.Parts.{row_of, maybe, Attribute, Signer, plain, Content}
 use Rattle.model.specs.Files.{File, file_tree}
 use Rattle.model.proofs.Single.{rows_same, file_same}
 use Rattle.stamp_model.specs.Algorithms.{Algorithm, null_part, algorithm_tree}
-use Rattle.stamp_model.specs.Indexes.{Index, entry_tree, entries_tree, index_tree, index_bytes}
-use Rattle.stamp_model.specs.Tokens.{Info, imprint_tree, info_tree, Token}
-use Rattle.stamp_model.specs.Stamps.{carrying, Stamp, Carries}
+use Rattle.stamp_model.specs.Indexes.{Index, entry_tree, entries_tree, index_tree}
+use Rattle.stamp_model.specs.Tokens.{Info, info_tree}
+use Rattle.stamp_model.specs.Stamps.{carrying}
 use Rattle.stamp_model.specs.Laws.{OneIndex, OneStamp}
 
 -- two valid trees with the same bytes are the same

@@ -1,14 +1,14 @@
 -- An imprint input tells its parts: each element says itself where it ends, and digests have one length.
 use Rattle.std.proofs.Common.{◌≡◌, ℕ, ◌-◌, List, [], ◌∷◌, ◌++◌, length, take, drop, Some, None, Option, sym, refl, ap, ◌∙◌, arith}
-use Rattle.std.specs.List.{ContainsAt as Has, AllZip, AllByRecursion}
+use Rattle.std.specs.List.{AllZip, AllByRecursion}
 use Rattle.std.proofs.ByRecursion.{all-has}
-use Rattle.std.proofs.lemmas.List.{append-nil, append_assoc, take_at, drop_at}
+use Rattle.std.proofs.lemmas.List.{append_assoc, take_at, drop_at}
 use Rattle.der.specs.Trees.{Tree, leaf, node, Forest, none, more, Valid, Valids, encode, encodes}
 use Rattle.der.proofs.Unique.{same_tree}
-use Rattle.model.specs.Parts.{row_of, row, maybe, Signer, version_tree, identifier_tree, algorithm_tree, signed_tree, unsigned_tree, six_fields, signer_tree}
+use Rattle.model.specs.Parts.{row_of, row, maybe, Signer, version_tree, identifier_tree, algorithm_tree, signed_tree, signer_tree}
 use Rattle.model.specs.Files.{File, content_type_tree, certificates_tree, revocations_tree, signers_tree, file_tree}
-use Rattle.stamp_model.specs.Covering.{six_bytes, input_of}
-use Rattle.stamp_model.specs.Laws.{SignerOf, SameFields, SameParts, PartsTell}
+use Rattle.stamp_model.specs.Covering.{six_bytes}
+use Rattle.stamp_model.specs.Laws.{SignerOf, SameFields, PartsTell}
 
 -- what is behind a field that may be there is valid
 behind_maybe : {M : Type 0} (tree : M → Tree) (o : Option M) (rest : Forest) (levels : ℕ) → Valids (maybe tree o rest) levels → Valids rest levels

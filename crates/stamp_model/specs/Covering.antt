@@ -1,13 +1,13 @@
 -- What a stamp stands for, and when it covers.
 use Rattle.std.specs.Prelude.{◌≡◌, ℕ, List, ◌++◌, map}
 use Rattle.std.specs.List.{ContainsAt as Has, AllByRecursion}
-use Rattle.der.specs.Trees.{Tree, none, encode, encodes}
+use Rattle.der.specs.Trees.{none, encode, encodes}
 pub use Rattle.model.specs.Parts.{given}
-use Rattle.model.specs.Parts.{Attribute, attribute_tree, Signer, six_fields}
+use Rattle.model.specs.Parts.{attribute_tree, Signer, six_fields}
 use Rattle.model.specs.Files.{File, content_type_tree}
 use Rattle.stamp_model.specs.declared.lists.ListName.{ListName}
 use Rattle.stamp_model.specs.declared.lists.ListName.TheVariants.{Certificates, Revocations, Attributes}
-use Rattle.stamp_model.specs.Indexes.{Index, entries_for, index_bytes}
+use Rattle.stamp_model.specs.Indexes.{entries_for, index_bytes}
 use Rattle.stamp_model.specs.Stamps.{Stamp}
 
 -- the elements of a list of a file and one of its signers, in file order, each with its header

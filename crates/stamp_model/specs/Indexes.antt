@@ -1,5 +1,5 @@
 -- An index: digests of the elements of three lists, and the digest that made them.
-use Rattle.std.specs.Prelude.{ℕ, ◌≤◌, Bool, true, false, cond, List, [], ◌∷◌, map, length, Some, None, Option}
+use Rattle.std.specs.Prelude.{ℕ, ◌≤◌, false, cond, List, map, length, Some, None, Option}
 use Rattle.std.specs.Str.{bytes_eq}
 use Rattle.der.specs.Trees.{Tree, leaf, node, none, more, encode}
 use Rattle.model.specs.Parts.{row_of, maybe}

@@ -7,7 +7,7 @@ use Rattle.model.specs.Files.{File, content_type_tree, file_tree}
 use Rattle.stamp_model.specs.Indexes.{Index, index_tree, index_bytes, index_of}
 use Rattle.stamp_model.specs.Stamps.{Stamp, Carries}
 use Rattle.stamp_model.specs.Covering.{Covers, input_of, stamp_input}
-use Rattle.stamp_model.specs.Later.{Included, Begins, LaterSigner, AsLate, Grown}
+use Rattle.stamp_model.specs.Later.{Included, LaterSigner, AsLate, Grown}
 
 -- bytes are those of one index at most
 abbrev pub OneIndex : Type 0

@@ -1,9 +1,8 @@
 -- Archive stamps: an attribute that holds a token, which carries an index.
-use Rattle.std.specs.Prelude.{◌≡◌, ℕ, Bool, List, [], ◌∷◌, Some, None, Option}
+use Rattle.std.specs.Prelude.{◌≡◌, ℕ, Bool, List, [], ◌∷◌, Some}
 use Rattle.model.specs.Parts.{Attribute, Signer}
 use Rattle.model.specs.Files.{File, file_tree}
 use Rattle.rules.specs.Attributes.{is_kind}
-use Rattle.rules.specs.Kinds.{kind_bytes}
 use Rattle.rules.specs.declared.kinds.AttributeKind.TheVariants.{ArchiveStamp}
 use Rattle.stamp_model.specs.Indexes.{Index, index_tree, IndexShape, meant_told_by}
 use Rattle.stamp_model.specs.Tokens.{Info, Token}

@@ -1,17 +1,16 @@
 -- A token has no fault.
-use Rattle.std.proofs.Common.{◌≡◌, ℕ, ◌<◌, List, [], ◌∷◌, ◌++◌, length, Some, None, sym, refl, ap, ◌∙◌, subst, arith}
+use Rattle.std.proofs.Common.{◌≡◌, ℕ, ◌<◌, List, [], length, Some, None, sym, ap, ◌∙◌, arith}
 use Rattle.std.proofs.lemmas.List.{append-nil, take_all}
 use Rattle.der.specs.Trees.{Tree, Starts, encode}
 use Rattle.der.proofs.Unique.{no_fault_at, same_tree}
-use Rattle.model.specs.Parts.{Content, plain}
+use Rattle.model.specs.Parts.{plain}
 use Rattle.model.specs.Files.{File}
 use Rattle.message.specs.declared.fault.MessageFault.TheVariants.{Element, Field, Count}
 use Rattle.message.proofs.Exact.{one_formed, never_both}
 use Rattle.stamp_model.specs.Tokens.{Info, info_tree, token_settings}
 use Rattle.token.specs.declared.parts.TokenFault.TheVariants.{Message as InMessage, Info as InInfo}
 use Rattle.token.specs.Grammar.{first_info_break}
-use Rattle.token.specs.Told.{Tells, Misfit, Untold}
-use Rattle.token.specs.Tokens.{IsToken}
+use Rattle.token.specs.Told.{Tells, Misfit}
 use Rattle.token.specs.Laws.{NeverUntold, NeverBoth}
 use Rattle.token.proofs.InfoTrees.{info_kept}
 

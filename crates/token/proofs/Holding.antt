@@ -1,10 +1,10 @@
 -- A message of a token's form has an octet string and one signer, where its record says.
-use Rattle.std.proofs.Common.{◌≡◌, ℕ, ◌+◌, ◌-◌, List, [], ◌∷◌, length, Some, None, Option, sym, refl, ap, ◌∙◌, subst, arith}
+use Rattle.std.proofs.Common.{◌≡◌, ℕ, ◌+◌, ◌-◌, List, [], ◌∷◌, length, Some, None, sym, refl, ap, ◌∙◌, subst, arith}
 use Rattle.der.specs.declared.span.Span.{Span}
 use Rattle.der.specs.Spans.{part}
 use Rattle.der.specs.Trees.{Tree, leaf, node, none, more}
-use Rattle.fields.specs.Placed.{Placed, located, placed_from, if_first, mapped}
-use Rattle.fields.specs.Rules.{head_size, body_size}
+use Rattle.fields.specs.Placed.{located, placed_from, if_first, mapped}
+use Rattle.fields.specs.Rules.{head_size}
 use Rattle.fields.proofs.Standing.{At, rest_at, inside_at, first_at, first_body}
 use Rattle.fields.proofs.Tags.{field_zero}
 use Rattle.cms.specs.declared.located.Signer.{Signer as Located}

@@ -1,8 +1,8 @@
 -- An element has no break exactly when it is what a token tells.
-use Rattle.std.proofs.Common.{◌≡◌, ℕ, ◌+◌, ◌-◌, Bool, true, false, cond, List, [], ◌∷◌, Some, None, Option, sym, refl, ap, ◌∙◌, arith}
+use Rattle.std.proofs.Common.{◌≡◌, ℕ, ◌+◌, ◌-◌, Bool, true, false, cond, List, [], ◌∷◌, Some, None, Option, sym, refl, ap, ◌∙◌}
 use Rattle.der.specs.Trees.{Tree, leaf, node, Forest, none, more, Valid, Valids, tag_of}
 use Rattle.fields.specs.Reads.{is}
-use Rattle.fields.specs.Rules.{parts_of, head_size, body_size, or_else, Rule, nothing, free, field, follow, one}
+use Rattle.fields.specs.Rules.{parts_of, head_size, body_size, or_else, nothing, free, field, follow, one}
 use Rattle.model.proofs.Unbroken.{some_not_none, cond_none, or_none, field_none, nothing_none, node_of, node_first, leaf_first, leaf_chosen}
 use Rattle.model.proofs.Signing.{bit_30, one_is}
 use Rattle.stamp_model.specs.Algorithms.{Algorithm, algorithm_tree}

@@ -1,17 +1,16 @@
 -- What is read of a token's contents lies where their tree says.
-use Rattle.std.proofs.Common.{◌≡◌, ℕ, ◌+◌, ◌-◌, ◌≤◌, List, ◌++◌, length, Ok, Err, Result, sym, refl, ap, ◌∙◌, subst}
+use Rattle.std.proofs.Common.{◌≡◌, ℕ, ◌-◌, ◌≤◌, List, ◌++◌, length, Ok, Result, sym, refl, subst}
 use Rattle.std.proofs.lemmas.Bool.{eqb-true}
 use Rattle.der.specs.declared.span.Span.{Span}
 use Rattle.der.specs.Spans.{part}
 use Rattle.der.specs.Trees.{Tree, Forest, none, more, Valid, encode, tag_of}
-use Rattle.fields.specs.Reads.{◌>>=◌, is, tagged, expect_of, finish_of}
-use Rattle.fields.specs.Placed.{located, Placed, placed_from, nth}
+use Rattle.fields.specs.Reads.{◌>>=◌, is, tagged, finish_of}
+use Rattle.fields.specs.Placed.{located, placed_from}
 use Rattle.fields.specs.Rules.{parts_of}
 use Rattle.fields.proofs.Steps.{Gives, gives_ok}
 use Rattle.fields.proofs.Tags.{seq}
 use Rattle.fields.proofs.Standing.{At, rest_at, inside_at, front_read, front_at}
 use Rattle.fields.proofs.Places.{by_cond, lie_then, lie_step, lie_check, lie_field, lie_record, lie_number}
-use Rattle.index.specs.declared.located.AlgorithmParts.{AlgorithmParts}
 use Rattle.index.specs.Places.{algorithm_at}
 use Rattle.index.specs.Records.{algorithm_in}
 use Rattle.index.proofs.AlgorithmLinks.{algorithm_lies}

@@ -1,12 +1,12 @@
 -- The reading of what a token tells breaks off where its rules break.
-use Rattle.std.proofs.Common.{◌≡◌, ℕ, ◌+◌, ◌-◌, ◌≤◌, Bool, true, false, cond, eqb, ltb, List, [], ◌∷◌, ◌++◌, length, Some, None, Ok, Err, Option, Result, sym, refl, ap, ◌∙◌, arith}
+use Rattle.std.proofs.Common.{◌≡◌, ℕ, ◌+◌, ◌-◌, ◌≤◌, eqb, ltb, List, [], ◌∷◌, ◌++◌, length, None, Ok, Result, sym, refl, ap, ◌∙◌, arith}
 use Rattle.std.proofs.lemmas.Bool.{cond-true, cond-false, eqb-true, lt-ltb, le-ltb}
 use Rattle.der.specs.declared.span.Span.{Span}
 use Rattle.der.specs.Spans.{part}
-use Rattle.der.specs.Trees.{Tree, Forest, none, more, Valid, encode, tag_of}
-use Rattle.fields.specs.Reads.{◌>>=◌, is, tagged, expect_of, finish_of, broke}
+use Rattle.der.specs.Trees.{Tree, Forest, none, Valid, encode, tag_of}
+use Rattle.fields.specs.Reads.{◌>>=◌, is, tagged, finish_of, broke}
 use Rattle.fields.specs.Placed.{located}
-use Rattle.fields.specs.Rules.{parts_of, head_size, body_size, nothing, free, field, one}
+use Rattle.fields.specs.Rules.{parts_of, head_size, body_size, nothing, free, field}
 use Rattle.fields.proofs.Tags.{seq}
 use Rattle.fields.proofs.Standing.{At, rest_at, inside_at, front_size, front_read, front_at}
 use Rattle.fields.proofs.Links.{or_none, link_then, link_end, by_tag, by_flag, link_field, link_record, link_nothing, link_number}

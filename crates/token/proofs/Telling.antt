@@ -1,14 +1,12 @@
 -- Contents with no break tell something.
-use Rattle.std.proofs.Common.{◌≡◌, ℕ, ◌+◌, List, [], ◌∷◌, ◌++◌, length, drop, None, Ok, Err, Result, sym, refl, ap, ◌∙◌, subst, arith}
+use Rattle.std.proofs.Common.{◌≡◌, ℕ, ◌+◌, List, [], ◌++◌, length, drop, None, Ok, sym, ap, ◌∙◌, subst, arith}
 use Rattle.std.proofs.lemmas.List.{append-nil}
 use Rattle.der.specs.Trees.{Tree, Valid, Starts, encode, tag_of}
 use Rattle.fields.specs.Reads.{is, broke}
 use Rattle.fields.specs.Rules.{parts_of, head_size, body_size, or_else}
-use Rattle.fields.proofs.Steps.{Gives}
 use Rattle.cms.specs.Grammar.{surplus_at}
-use Rattle.model.proofs.Unbroken.{some_not_none, cond_none, or_none}
+use Rattle.model.proofs.Unbroken.{cond_none, or_none}
 use Rattle.message.proofs.Made.{whole_part, split_file, nothing_behind_lem}
-use Rattle.stamp_model.specs.Tokens.{info_tree}
 use Rattle.token.specs.declared.located.InfoParts.{InfoParts}
 use Rattle.token.specs.Grammar.{info, first_info_break}
 use Rattle.token.specs.Places.{info_at}

@@ -1,5 +1,5 @@
 -- What the definitions give together.
-use Rattle.std.specs.Prelude.{◌≡◌, ℕ, List}
+use Rattle.std.specs.Prelude.{ℕ, List}
 use Rattle.model.specs.Parts.{Signer}
 use Rattle.model.specs.Files.{File}
 use Rattle.message.specs.declared.fault.MessageFault.{MessageFault}

@@ -6,7 +6,7 @@ use Rattle.der.specs.Trees.{encode}
 use Rattle.cms.specs.declared.located.Content.{Content as Located}
 use Rattle.cms.specs.declared.located.Content.TheVariants.{Detached, Plain, Segmented}
 use Rattle.cms.specs.Places.{message_at}
-use Rattle.model.specs.Parts.{Signer, Content, plain}
+use Rattle.model.specs.Parts.{Signer, plain}
 use Rattle.model.specs.Files.{File, file_tree, signers_tree}
 use Rattle.rules.specs.Offsets.{inside, signers_at}
 use Rattle.message.specs.declared.fault.MessageFault.{MessageFault}

@@ -1,4 +1,4 @@
-use Rattle.std.proofs.Common.{◌≡◌, sym, refl, ap, ◌∙◌}
+use Rattle.std.proofs.Common.{sym}
 use Rattle.archive.specs.Accepted.{file_settings}
 use Rattle.archive.proofs.Lying.{file_there}
 use Rattle.archive.proofs.reading.accept.Goals as goal

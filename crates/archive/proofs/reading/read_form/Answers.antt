@@ -1,4 +1,4 @@
-use Rattle.std.proofs.Common.{◌≡◌, length, drop, sym, refl, ap, ◌∙◌, arith}
+use Rattle.std.proofs.Common.{drop, sym, ◌∙◌, arith}
 use Rattle.archive.proofs.Forming.{whole_part, split_file, formed_at}
 use Rattle.archive.proofs.reading.read_form.Goals as goal
 

@@ -1,4 +1,4 @@
-use Rattle.std.proofs.Common.{◌≡◌, ℕ, ◌-◌, List, Ok, Err, Result, sym, refl, ap, ◌∙◌, subst}
+use Rattle.std.proofs.Common.{ℕ, ◌-◌, List, Ok, Result, sym, ap, ◌∙◌, subst}
 use Rattle.rules.specs.Signers.{SignerThere}
 use Rattle.archive.specs.declared.answers.Reading.{Reading}
 use Rattle.archive.specs.declared.refusal.Refusal.{Refusal}

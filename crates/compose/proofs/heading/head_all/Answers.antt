@@ -1,4 +1,4 @@
-use Rattle.std.proofs.Common.{◌≡◌, sym, refl, ap, ◌∙◌}
+use Rattle.std.proofs.Common.{sym, refl}
 use Rattle.compose.proofs.Sizes.{at_none, inner_long}
 use Rattle.compose.specs.Heads.{identifier_bytes}
 use Rattle.compose.proofs.heading.head_all.Goals as goal

@@ -1,4 +1,4 @@
-use Rattle.std.proofs.Common.{◌+◌, ◌<◌, length, refl, ⊎_elim, arith}
+use Rattle.std.proofs.Common.{◌+◌, ◌<◌, length, arith}
 use Rattle.compose.proofs.Sizes.{lead_long, of_these}
 use Rattle.compose.proofs.pieces.headers_for.Goals as goal
 

@@ -1,4 +1,4 @@
-use Rattle.std.proofs.Common.{◌≡◌, sym, refl, ap, ◌∙◌}
+use Rattle.std.proofs.Common.{◌∙◌}
 use Rattle.compose.proofs.Taken.{front_lies, six_lie}
 use Rattle.compose.proofs.taking.leads_of.Goals as goal
 

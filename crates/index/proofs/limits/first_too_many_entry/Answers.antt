@@ -1,4 +1,4 @@
-use Rattle.std.proofs.Common.{◌≡◌, ap, ◌∙◌}
+use Rattle.std.proofs.Common.{ap, ◌∙◌}
 use Rattle.index.specs.declared.located.IndexParts.{IndexParts}
 use Rattle.index.specs.Limits.{first_past_entry}
 use Rattle.index.proofs.EntryLimits.{bytes_past}

@@ -1,4 +1,4 @@
-use Rattle.std.proofs.Common.{◌≡◌, ℕ, List, ◌∷◌, ◌++◌, length, sym, ap, ◌∙◌, arith}
+use Rattle.std.proofs.Common.{◌≡◌, ℕ, ◌∷◌, ◌++◌, sym, ap, ◌∙◌, arith}
 use Rattle.der.specs.Headers.{header_size_of}
 use Rattle.der.specs.Trees.{length_bytes}
 use Rattle.index.proofs.Areas.{put_then, put_same}

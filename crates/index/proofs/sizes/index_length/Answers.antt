@@ -1,4 +1,4 @@
-use Rattle.std.proofs.Common.{◌≡◌, ℕ, List, sym, refl, ap, ◌∙◌}
+use Rattle.std.proofs.Common.{◌≡◌, ℕ, List, sym, ap, ◌∙◌}
 use Rattle.index.specs.Sizes.{framed_size_of, index_size}
 use Rattle.index.proofs.Sizing.{index_length_lem}
 use Rattle.index.proofs.sizes.index_length.Goals as goal

@@ -1,13 +1,13 @@
-use Rattle.std.proofs.Common.{◌≡◌, ℕ, ◌+◌, ◌*◌, ◌<◌, ◌≤◌, List, length, sym, refl, ap, ◌∙◌, subst, add-mul, arith}
+use Rattle.std.proofs.Common.{◌≡◌, ℕ, ◌*◌, ◌≤◌, List, length, sym, refl, ap, ◌∙◌, subst, add-mul, arith}
 use Rattle.der.specs.Spans.{part}
-use Rattle.der.specs.Trees.{Tree, encode, encodes}
+use Rattle.der.specs.Trees.{encode}
 use Rattle.model.specs.Parts.{row}
 use Rattle.digest.specs.Took.{most}
 use Rattle.stamp_model.specs.Indexes.{entry_tree}
 use Rattle.index.specs.Puts.{Put}
 use Rattle.index.specs.Sizes.{framed_size_of}
 use Rattle.index.proofs.Areas.{put_none}
-use Rattle.index.proofs.Entering.{Entered, same_part, none_done, has_next, all_done, next_valid, next_bytes, next_done, few_bytes, more_room, entered_more}
+use Rattle.index.proofs.Entering.{same_part, none_done, has_next, all_done, next_valid, next_bytes, next_done, few_bytes, more_room, entered_more}
 use Rattle.index.proofs.writing.put_entries.Goals as goal
 
 pub loop-init : goal.loop-init

@@ -1,4 +1,4 @@
-use Rattle.std.proofs.Common.{◌≡◌, ℕ, ◌+◌, ◌*◌, List}
+use Rattle.std.proofs.Common.{◌≡◌, ◌+◌, ◌*◌, List}
 use Rattle.der.specs.Trees.{Tree}
 use Rattle.index.specs.Sizes.{framed_size_of}
 use Rattle.index.specs.Standing.{Stand}

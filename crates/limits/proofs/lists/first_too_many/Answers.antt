@@ -1,4 +1,4 @@
-use Rattle.std.proofs.Common.{◌≡◌, ap, ◌∙◌}
+use Rattle.std.proofs.Common.{ap, ◌∙◌}
 use Rattle.cms.specs.declared.located.Message.{Message}
 use Rattle.limits.specs.Past.{first_past}
 use Rattle.limits.proofs.Filing.{file_past}

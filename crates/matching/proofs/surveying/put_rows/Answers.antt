@@ -1,4 +1,4 @@
-use Rattle.std.proofs.Common.{◌≡◌, ℕ, ◌+◌, ◌<◌, ◌≤◌, List, map, length, sym, refl, ap, ◌∙◌, subst, arith}
+use Rattle.std.proofs.Common.{◌≡◌, ℕ, ◌+◌, ◌≤◌, List, map, length, sym, refl, ap, ◌∙◌, subst, arith}
 use Rattle.der.specs.Spans.{part}
 use Rattle.der.specs.Trees.{encode, body_of}
 use Rattle.der.proofs.Parts.{length_part}

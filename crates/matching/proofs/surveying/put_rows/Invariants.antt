@@ -1,4 +1,4 @@
-use Rattle.std.proofs.Common.{◌≡◌, ℕ, ◌+◌, List, map}
+use Rattle.std.proofs.Common.{◌≡◌, ◌+◌, List, map}
 use Rattle.der.specs.Trees.{Tree, body_of}
 use Rattle.index.specs.Standing.{Stand}
 use Rattle.index.proofs.Entering.{Halfway}

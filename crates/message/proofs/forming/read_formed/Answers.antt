@@ -1,4 +1,4 @@
-use Rattle.std.proofs.Common.{◌≡◌, length, drop, sym, refl, ap, ◌∙◌, arith}
+use Rattle.std.proofs.Common.{drop, sym, ◌∙◌, arith}
 use Rattle.message.proofs.Made.{whole_part, split_file, formed_at}
 use Rattle.message.proofs.forming.read_formed.Goals as goal
 

@@ -1,4 +1,4 @@
-use Rattle.std.proofs.Common.{◌≡◌, sym, refl, ap, ◌∙◌}
+use Rattle.std.proofs.Common.{sym}
 use Rattle.message.proofs.forming.read_within.Goals as goal
 
 pub returns-in-Some : goal.returns-in-Some

@@ -1,4 +1,4 @@
-use Rattle.std.proofs.Common.{◌≡◌, ℕ, ◌-◌, List, length, take, sym, refl, ap, ◌∙◌, subst, arith}
+use Rattle.std.proofs.Common.{arith}
 use Rattle.opening.specs.Accepted.{Fits}
 use Rattle.opening.proofs.Opening.{opens_by}
 use Rattle.opening.proofs.gate.open_file.Goals as goal

@@ -1,4 +1,4 @@
-use Rattle.std.proofs.Common.{◌≡◌, ℕ, List, length, Some, None, Option, sym, refl, ap, ◌∙◌}
+use Rattle.std.proofs.Common.{◌≡◌, ℕ, List, length, Some, None, Option, refl, ◌∙◌}
 use Rattle.der.specs.Trees.{Tree}
 use Rattle.fields.specs.declared.located.Entries.{Entries}
 use Rattle.model.specs.Parts.{given}

@@ -1,4 +1,4 @@
-use Rattle.std.proofs.Common.{◌≡◌, ℕ, ◌<◌, List, [], ◌∷◌, ◌++◌, sym, refl, ap, ◌∙◌, subst, arith}
+use Rattle.std.proofs.Common.{◌≡◌, ℕ, ◌<◌, [], ◌∷◌, ◌++◌, sym, refl, ap, ◌∙◌, subst, arith}
 use Rattle.rules.specs.Attributes.{faulty_signed, first_faulty}
 use Rattle.rules.specs.Standing.{Row}
 use Rattle.rules.proofs.Reading.{no_break, turn, rows_join, row_empty}

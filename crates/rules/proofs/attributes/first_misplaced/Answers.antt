@@ -1,4 +1,4 @@
-use Rattle.std.proofs.Common.{◌≡◌, ℕ, ◌<◌, List, sym, refl, ap, ◌∙◌, subst, arith}
+use Rattle.std.proofs.Common.{◌≡◌, ℕ, ◌<◌, sym, ap, ◌∙◌, subst, arith}
 use Rattle.rules.specs.Attributes.{is_among, misplaced, first_with}
 use Rattle.rules.specs.Kinds.{signed_kinds}
 use Rattle.rules.specs.Standing.{Row}

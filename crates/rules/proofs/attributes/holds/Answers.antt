@@ -1,4 +1,4 @@
-use Rattle.std.proofs.Common.{◌≡◌, ℕ, ◌<◌, List, sym, refl, ap, ◌∙◌, subst, arith}
+use Rattle.std.proofs.Common.{◌≡◌, ℕ, ◌<◌, sym, ◌∙◌, subst, arith}
 use Rattle.rules.specs.Attributes.{names}
 use Rattle.rules.specs.Standing.{Row}
 use Rattle.rules.proofs.Holding.{found, missed, none_held}

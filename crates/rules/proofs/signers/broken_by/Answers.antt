@@ -1,4 +1,4 @@
-use Rattle.std.proofs.Common.{◌≡◌, ℕ, Bool, cond, List, [], Some, None, Option, sym, refl, ap, ◌∙◌, subst}
+use Rattle.std.proofs.Common.{◌≡◌, ℕ, Bool, cond, [], Some, Option, sym, ap, ◌∙◌}
 use Rattle.fields.specs.Rules.{or_else}
 use Rattle.model.specs.Parts.{signed_tree}
 use Rattle.rules.specs.Attributes.{faulty_signed, first_faulty, first_misplaced_of, lacks}

@@ -1,7 +1,6 @@
-use Rattle.std.proofs.Common.{◌≡◌, ℕ, ◌-◌, ◌<◌, List, [], sym, refl, ap, ◌∙◌, subst, arith}
-use Rattle.rules.specs.Attributes.{first_broken_of}
+use Rattle.std.proofs.Common.{◌≡◌, ℕ, ◌-◌, ◌<◌, [], sym, ap, ◌∙◌, subst, arith}
 use Rattle.rules.specs.Signers.{Signers, signer_number}
-use Rattle.rules.proofs.SignerReading.{same_signer, no_signer_break, signer_turn, broken_found, broken_missed, broken_none, number_found, number_missed, number_none}
+use Rattle.rules.proofs.SignerReading.{same_signer, no_signer_break, signer_turn, number_found, number_missed, number_none}
 use Rattle.der.specs.Trees.{leaf}
 use Rattle.rules.proofs.signers.find_signer.Goals as goal
 

@@ -1,4 +1,4 @@
-use Rattle.std.proofs.Common.{◌≡◌, ℕ, List, length, drop, sym, refl, ap, ◌∙◌, arith}
+use Rattle.std.proofs.Common.{length, drop, sym, ◌∙◌, arith}
 use Rattle.message.proofs.Made.{whole_part, split_file}
 use Rattle.index.proofs.EntryLimits.{none_too_many}
 use Rattle.stamp.proofs.Indexing.{written_as, all_of}

@@ -1,4 +1,3 @@
-use Rattle.std.proofs.Common.{◌≡◌, sym, refl, ap, ◌∙◌}
 use Rattle.stamp.proofs.Bare.{burdened, bare}
 use Rattle.stamp.proofs.stamps.read_bare_token.Goals as goal
 

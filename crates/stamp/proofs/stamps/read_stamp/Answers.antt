@@ -1,4 +1,3 @@
-use Rattle.std.proofs.Common.{◌≡◌, sym, refl, ap, ◌∙◌}
 use Rattle.stamp.proofs.Holding.{uncarried, misindexed, stamp_at}
 use Rattle.stamp.proofs.stamps.read_stamp.Goals as goal
 

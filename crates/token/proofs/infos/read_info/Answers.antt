@@ -1,9 +1,7 @@
-use Rattle.std.proofs.Common.{◌≡◌, length, drop, sym, refl, ap, ◌∙◌, arith}
+use Rattle.std.proofs.Common.{length, drop, sym, ap, ◌∙◌, arith}
 use Rattle.fields.specs.Reads.{broke}
-use Rattle.fields.proofs.Steps.{gives_cases}
 use Rattle.message.proofs.Made.{whole_part, split_file}
 use Rattle.token.proofs.Links.{link_whole}
-use Rattle.token.proofs.Lies.{whole_lies}
 use Rattle.token.proofs.Telling.{told_at}
 use Rattle.token.proofs.infos.read_info.Goals as goal
 

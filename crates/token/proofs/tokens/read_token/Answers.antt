@@ -1,4 +1,4 @@
-use Rattle.std.proofs.Common.{◌≡◌, ℕ, List, sym, refl, ap, ◌∙◌, subst}
+use Rattle.std.proofs.Common.{◌≡◌, ℕ, List, sym, ◌∙◌, subst}
 use Rattle.cms.specs.declared.settings.Settings.{Settings}
 use Rattle.cms.specs.declared.located.Message.{Message}
 use Rattle.message.specs.Formed.{WithinAt, Faulty}

@@ -1,4 +1,4 @@
-use Rattle.std.proofs.Common.{◌≡◌, ℕ, sym, ap, ◌∙◌, subst}
+use Rattle.std.proofs.Common.{sym, ap, ◌∙◌, subst}
 use Rattle.index.specs.declared.elements.ElementLists.{ElementLists}
 use Rattle.index.specs.Standing.{StandLists, entry_lists, entry_trees}
 use Rattle.index.proofs.Inside.{index_stand}

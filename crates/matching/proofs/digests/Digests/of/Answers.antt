@@ -1,9 +1,9 @@
-use Rattle.std.proofs.Common.{◌≡◌, ℕ, ◌*◌, ◌≤◌, List, ◌++◌, map, length, drop, sym, refl, ap, ◌∙◌, subst, arith}
+use Rattle.std.proofs.Common.{ℕ, map, length, sym, ap, ◌∙◌, arith}
 use Rattle.std.proofs.lemmas.Nat.{mul-le}
 use Rattle.std.proofs.lemmas.List.{length-map}
 use Rattle.der.specs.Trees.{encode}
 use Rattle.index.proofs.Areas.{put_whole}
-use Rattle.matching.specs.Lists.{parts, digests_bytes}
+use Rattle.matching.specs.Lists.{parts}
 use Rattle.matching.proofs.Joining.{parts_joined}
 use Rattle.matching.proofs.digests.Digests.of.Goals as goal
 

@@ -1,4 +1,4 @@
-use Rattle.std.proofs.Common.{◌≡◌, ℕ, ◌+◌, ◌*◌, ◌≤◌, List, sym, refl, ap, ◌∙◌, add-mul, arith}
+use Rattle.std.proofs.Common.{ℕ, List, sym, ap, ◌∙◌, add-mul, arith}
 use Rattle.std.specs.Str.{bytes_eq}
 use Rattle.index.proofs.Entering.{more_room}
 use Rattle.matching.proofs.Joining.{left_found, left_missed, left_all, left_none}

@@ -1,4 +1,4 @@
-use Rattle.std.proofs.Common.{◌≡◌, ℕ, ◌+◌, ◌*◌, ◌≤◌, List, length, sym, refl, ap, ◌∙◌, subst, add-mul, arith}
+use Rattle.std.proofs.Common.{◌≡◌, ℕ, ◌≤◌, List, length, sym, refl, ap, ◌∙◌, subst, add-mul, arith}
 use Rattle.der.specs.Spans.{part}
 use Rattle.der.specs.Trees.{encode}
 use Rattle.model.specs.Parts.{row}
