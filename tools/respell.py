@@ -31,7 +31,6 @@ APART = {
     "certificatesPath": "certificates_path_of",
     "content-of": "content_of_lem",
     "contentOf": "content_for",
-    "contentType": "content_type_of",
     "contentsSize": "contents_size_of",
     "data-over": "data_over_lem",
     "digestBytes": "digest_bytes_of",

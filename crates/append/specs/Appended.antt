@@ -13,7 +13,7 @@ abbrev pub with_certificates : List Tree → File → File
 with_certificates new f = record {
   version = f.version;
   digests = f.digests;
-  content_type_of = f.content_type_of;
+  content_type = f.content_type;
   content = f.content;
   certificates = longer new f.certificates;
   revocations = f.revocations;
@@ -24,7 +24,7 @@ abbrev pub with_revocations : List Tree → File → File
 with_revocations new f = record {
   version = f.version;
   digests = f.digests;
-  content_type_of = f.content_type_of;
+  content_type = f.content_type;
   content = f.content;
   certificates = f.certificates;
   revocations = longer new f.revocations;
@@ -52,7 +52,7 @@ abbrev pub with_attributes : ℕ → List Attribute → File → File
 with_attributes n new f = record {
   version = f.version;
   digests = f.digests;
-  content_type_of = f.content_type_of;
+  content_type = f.content_type;
   content = f.content;
   certificates = f.certificates;
   revocations = f.revocations;

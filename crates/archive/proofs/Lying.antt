@@ -89,7 +89,7 @@ module _ (file : List ℕ) (f : File) (k : Formed file f) where
 
   pub file_there : (m : Message) → m ≡ message_at 0 (file_tree f) → FileThere file m f
   file_there m e = subst (λ (x : Message). FileThere file x f) (sym e) (record {
-    content_type_of = first_bytes 28 file _ _ (content_type_tree f) (content_parts f.content) type_inside;
+    content_type = first_bytes 28 file _ _ (content_type_tree f) (content_parts f.content) type_inside;
     from = ap (λ (x : Placed). (span_of x).body) placed;
     levels = 28;
     signers = subst (λ (x : Placed). Signers 28 file (span_of x).body (span_of x).end f.signers) (sym placed) (record {

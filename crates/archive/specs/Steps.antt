@@ -52,7 +52,7 @@ entries_count (Some e) = e.count
 
 -- where the parts lie that `read` looks at
 pub record FileThere (file : List ℕ) (m : Message) (f : File) : Type 0 where
-  pub content_type_of : part file m.info.kind.start m.info.kind.end ≡ encode (content_type_tree f)
+  pub content_type : part file m.info.kind.start m.info.kind.end ≡ encode (content_type_tree f)
   pub from : m.signers.field.body ≡ inside (signers_at f) (signers_tree f)
   pub levels : ℕ
   pub signers : Signers levels file m.signers.field.body m.signers.field.end f.signers

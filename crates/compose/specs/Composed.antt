@@ -25,7 +25,7 @@ abbrev pub token_with : File → Signer → File
 token_with f s = record {
   version = f.version;
   digests = f.digests;
-  content_type_of = f.content_type_of;
+  content_type = f.content_type;
   content = f.content;
   certificates = f.certificates;
   revocations = f.revocations;

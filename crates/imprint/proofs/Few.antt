@@ -38,6 +38,6 @@ never_long f s digest index k d x =
     omega (
       arith,
       four_long (encode (content_type_tree f)) digest (six_bytes s) index,
-      length_bytes_few (length f.content_type_of),
-      length-append (length_bytes (length f.content_type_of)) f.content_type_of,
+      length_bytes_few (length f.content_type),
+      length-append (length_bytes (length f.content_type)) f.content_type,
     )

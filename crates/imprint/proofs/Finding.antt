@@ -19,14 +19,14 @@ module _ (file : List ℕ) (m : Message) (x : Located) (digest index : List ℕ)
   pub found_input : (f : File) (s : Signer) → Lies file m f → SignerLies file x s → bytes_of input ≡ input_of f s digest index
   found_input f s l w =
       four_same input.content_type.now input.content_digest.now input.fields.now input.index.now _ _ _ _
-      (found.content_type_of ∙ l.content_type_of) found.content (found.fields ∙ (six_stand file x s w).bytes) found.carried
+      (found.content_type ∙ l.content_type) found.content (found.fields ∙ (six_stand file x s w).bytes) found.carried
 
   pub found_few : length (bytes_of input) ≤ 2 * length file + length digest + length index
   found_few =
       omega (
         arith,
         four_long input.content_type.now input.content_digest.now input.fields.now input.index.now,
-        ap length found.content_type_of,
+        ap length found.content_type,
         ap length found.content,
         ap length found.fields,
         ap length found.carried,

@@ -12,7 +12,7 @@ bytes_of input = input.content_type.now ++ (input.content_digest.now ++ (input.f
 
 -- the pieces lie in the file where the records say: the content type element, and from the first of the signer's fields to the end of the sixth
 pub record Found (file : List ℕ) (m : Message) (x : Located) (digest index : List ℕ) (input : Input) : Type 0 where
-  pub content_type_of : input.content_type.now ≡ part file m.info.kind.start m.info.kind.end
+  pub content_type : input.content_type.now ≡ part file m.info.kind.start m.info.kind.end
   pub content : input.content_digest.now ≡ digest
   pub fields : input.fields.now ≡ part file x.whole.body x.signature.end
   pub carried : input.index.now ≡ index

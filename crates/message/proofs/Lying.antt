@@ -98,7 +98,7 @@ module _ (settings : Settings) (levels : ℕ) (file : List ℕ) (f : File) (k : 
 
   pub file_lies : (m : Message) → m ≡ message_at 0 (file_tree f) → Lies file m f
   file_lies m e = subst (λ (x : Message). Lies file x f) (sym e) (record {
-    content_type_of = first_bytes (levels - 1 - 1 - 1 - 1) file _ _ (content_type_tree f) (content_parts f.content) type_inside;
+    content_type = first_bytes (levels - 1 - 1 - 1 - 1) file _ _ (content_type_tree f) (content_parts f.content) type_inside;
     starts = ap (λ (x : Placed). (span_of x).start) placed;
     from = ap (λ (x : Placed). (span_of x).body) placed;
     levels = levels - 1 - 1 - 1 - 1;

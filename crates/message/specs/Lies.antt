@@ -26,7 +26,7 @@ entries_count (Some e) = e.count
 
 -- the parts of the message f lie where the record m says
 pub record Lies (bytes : List ℕ) (m : Message) (f : File) : Type 0 where
-  pub content_type_of : part bytes m.info.kind.start m.info.kind.end ≡ encode (content_type_tree f)
+  pub content_type : part bytes m.info.kind.start m.info.kind.end ≡ encode (content_type_tree f)
   pub starts : m.signers.field.start ≡ signers_at f
   pub from : m.signers.field.body ≡ inside (signers_at f) (signers_tree f)
   pub levels : ℕ

@@ -66,10 +66,10 @@ content_of_lem levels p ts v e =
 
 -- a content info, by the setting
 pub record Info (form : ContentForm) (ts : Forest) : Type 0 where
-  pub content_type_of : List ℕ
+  pub content_type : List ℕ
   pub content : Content
-  pub whole : ts ≡ more (leaf 6 content_type_of) (content_parts content)
-  pub shape : ContentShape form content_type_of content
+  pub whole : ts ≡ more (leaf 6 content_type) (content_parts content)
+  pub shape : ContentShape form content_type content
 
 info_of_lem : (form : ContentForm) (levels p : ℕ) (ts : Forest) → Valids ts levels → content_info form p ts ≡ None → Info form ts
 info_of_lem Any levels p ts v e =
@@ -77,7 +77,7 @@ info_of_lem Any levels p ts v e =
     let c = by f (node_maybe 0xa0 content nothing f.after levels f.rest f.valids bit_a0 f.behind) in
     let a₁ = f.whole in
     let a₂ = c.1 in
-    record { content_type_of = f.body; content = c.0; whole = cc; shape = tt }
+    record { content_type = f.body; content = c.0; whole = cc; shape = tt }
   where
     by : (f : LeafFirst 6 (optional (is 0xa0) content nothing) levels ts) → (nothing f.after f.rest ≡ None) ⊎ NodeFirst 0xa0 content nothing levels f.rest → (c : Content) × (f.rest ≡ content_parts c)
     by f (inl q) = (detached, nothing_none f.after f.rest q)
@@ -100,7 +100,7 @@ info_of_lem TimeStampInfo levels p ts v e =
         let a₃ = l.whole in
         let a₄ : l.rest ≡ none = nothing_none l.after l.rest l.behind in
         let a₅ : f.rest ≡ none = nothing_none f.after f.rest f.behind in
-        record { content_type_of = c.body; content = plain l.body; whole = cc; shape = (b, tt) }
+        record { content_type = c.body; content = plain l.body; whole = cc; shape = (b, tt) }
 
 -- elements with allowed tags
 allowed_of_lem : (tags : Tags) (levels q : ℕ) (t : Tree) → Valid t levels → tags (tag_of t) ≡ true → free q (parts_of t) ≡ None →
@@ -150,19 +150,19 @@ signers_of_lem ExactlyOne levels p ts v e =
 signers_of_lem Nobody levels p ts v e = ([], tt, refl, nothing_none p ts e)
 
 -- the fields of signed data, put together
-assembled : (v : ℕ) (ts r₁ r₂ r₃ r₄ r₅ digests info parts : Forest) (content_type_of : List ℕ) (c : Content) (cs rs : Option (List Tree)) (ss : List Signer) →
-    ts ≡ more (node 0x31 digests) r₁ → r₁ ≡ more (node 0x30 info) r₂ → info ≡ more (leaf 6 content_type_of) (content_parts c) →
+assembled : (v : ℕ) (ts r₁ r₂ r₃ r₄ r₅ digests info parts : Forest) (content_type : List ℕ) (c : Content) (cs rs : Option (List Tree)) (ss : List Signer) →
+    ts ≡ more (node 0x31 digests) r₁ → r₁ ≡ more (node 0x30 info) r₂ → info ≡ more (leaf 6 content_type) (content_parts c) →
     r₂ ≡ maybe certificates_tree cs r₃ → r₃ ≡ maybe revocations_tree rs r₄ → r₄ ≡ more (node 0x31 parts) r₅ → parts ≡ row_of signer_tree ss → r₅ ≡ none →
     node 0x30 (more (leaf 2 (v ∷ [])) ts) ≡ signed_data_tree (record {
       version = v;
       digests = digests;
-      content_type_of = content_type_of;
+      content_type = content_type;
       content = c;
       certificates = cs;
       revocations = rs;
       signers = ss;
     })
-assembled v ts r₁ r₂ r₃ r₄ r₅ digests info parts content_type_of c cs rs ss a₁ a₂ a₃ a₄ a₅ a₆ a₇ a₈ = cc
+assembled v ts r₁ r₂ r₃ r₄ r₅ digests info parts content_type c cs rs ss a₁ a₂ a₃ a₄ a₅ a₆ a₇ a₈ = cc
 
 -- the contents of signed data, behind the version
 pub record Fields (settings : Settings) (ts : Forest) : Type 0 where
@@ -183,7 +183,7 @@ fields_of settings levels p ts v e =
       file = λ v. record {
         version = v;
         digests = f₁.parts;
-        content_type_of = i.content_type_of;
+        content_type = i.content_type;
         content = i.content;
         certificates = c.entries;
         revocations = r.entries;
@@ -197,7 +197,7 @@ fields_of settings levels p ts v e =
         signers = ss.1;
         count = ss.2;
       };
-      whole = λ v. assembled v ts f₁.rest f₂.rest c.rest r.rest f₃.rest f₁.parts f₂.parts f₃.parts i.content_type_of i.content c.entries r.entries ss.0
+      whole = λ v. assembled v ts f₁.rest f₂.rest c.rest r.rest f₃.rest f₁.parts f₂.parts f₃.parts i.content_type i.content c.entries r.entries ss.0
           f₁.whole f₂.whole i.whole c.whole r.whole f₃.whole ss.3 (nothing_none f₃.after f₃.rest f₃.behind);
     }
 

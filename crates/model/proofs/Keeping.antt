@@ -76,14 +76,14 @@ content_kept p detached = refl
 content_kept p (plain bytes) = refl
 content_kept p (segmented segments) = both _ _ (both _ _ (segments_kept _ segments) refl) refl
 
-info_kept : (form : ContentForm) (p : ℕ) (content_type_of : List ℕ) (c : Content) → ContentShape form content_type_of c →
-    content_info form p (more (leaf 6 content_type_of) (content_parts c)) ≡ None
-info_kept Any p content_type_of c k = content_kept _ c
-info_kept TimeStampInfo p content_type_of detached k = absurd k.1
-info_kept TimeStampInfo p content_type_of (plain bytes) k =
-    let s : bytes_eq content_type_of time_stamp_info_id ≡ true = (bytes_eq-Decides content_type_of time_stamp_info_id).1 k.0 in
-    ap (λ (b : Bool). follow (cond b (Some (field (is 0xa0) (field (is 4) free nothing) nothing)) None) p (p + head_size (leaf 6 content_type_of) + body_size (leaf 6 content_type_of)) (content_parts (plain bytes))) s
-info_kept TimeStampInfo p content_type_of (segmented segments) k = absurd k.1
+info_kept : (form : ContentForm) (p : ℕ) (content_type : List ℕ) (c : Content) → ContentShape form content_type c →
+    content_info form p (more (leaf 6 content_type) (content_parts c)) ≡ None
+info_kept Any p content_type c k = content_kept _ c
+info_kept TimeStampInfo p content_type detached k = absurd k.1
+info_kept TimeStampInfo p content_type (plain bytes) k =
+    let s : bytes_eq content_type time_stamp_info_id ≡ true = (bytes_eq-Decides content_type time_stamp_info_id).1 k.0 in
+    ap (λ (b : Bool). follow (cond b (Some (field (is 0xa0) (field (is 4) free nothing) nothing)) None) p (p + head_size (leaf 6 content_type) + body_size (leaf 6 content_type)) (content_parts (plain bytes))) s
+info_kept TimeStampInfo p content_type (segmented segments) k = absurd k.1
 
 allowed_kept : (tags : Tags) (p : ℕ) (es : List Tree) → AllowedTags tags es → list tags free p (row es) ≡ None
 allowed_kept tags p es a = list_row (λ x. x) (λ x. tags (tag_of x) ≡ true) tags free (λ m k. k) (λ q m k. refl) p es a
@@ -108,5 +108,5 @@ data_version_kept settings v p q rest t e = ap (λ (b : Bool). follow (cond b (S
 pub file_has_no_break : (settings : Settings) (place levels : ℕ) (f : File) → Shape settings f → Valid (file_tree f) levels → first_break settings place (file_tree f) [] ≡ None
 file_has_no_break settings place levels f k v =
     both _ _ (both _ _ (both _ _ (data_version_kept settings f.version _ _ _ k.version
-    (both _ _ (info_kept settings.content _ f.content_type_of f.content k.content)
+    (both _ _ (info_kept settings.content _ f.content_type f.content k.content)
     (certificates_kept settings.signers _ f.certificates f.revocations f.signers k.certificates k.revocations k.signers k.count))) refl) refl) refl

@@ -100,7 +100,7 @@ file_same f f' e =
     let d : signed_data_tree f ≡ signed_data_tree f' = cc in
     let v : f.version ≡ f'.version = cc in
     let g : f.digests ≡ f'.digests = cc in
-    let t : f.content_type_of ≡ f'.content_type_of = cc in
+    let t : f.content_type ≡ f'.content_type = cc in
     let c₁ : content_parts f.content ≡ content_parts f'.content = cc in
     let l : maybe certificates_tree f.certificates (maybe revocations_tree f.revocations (more (signers_tree f) none))
     ≡ maybe certificates_tree f'.certificates (maybe revocations_tree f'.revocations (more (signers_tree f') none)) = cc in
@@ -112,7 +112,7 @@ file_same f f' e =
     let s₂ = rows_same signer_tree signer_same f.signers f'.signers s₁ in
     let p = cs.0 in
     let q = rs.0 in
-    λ i. record { version = v i; digests = g i; content_type_of = t i; content = c₂ i; certificates = p i; revocations = q i; signers = s₂ i }
+    λ i. record { version = v i; digests = g i; content_type = t i; content = c₂ i; certificates = p i; revocations = q i; signers = s₂ i }
 
 pub one_file : (f f' : File) (levels : ℕ) → Valid (file_tree f) levels → Valid (file_tree f') levels → file_bytes f ≡ file_bytes f' → f ≡ f'
 one_file f f' levels v v' e =

@@ -8,7 +8,7 @@ use Rattle.model.specs.Parts.{row, row_of, maybe, Signer, signer_tree, Content, 
 pub record File : Type 0 where
   pub version : ℕ
   pub digests : Forest
-  pub content_type_of : List ℕ
+  pub content_type : List ℕ
   pub content : Content
   pub certificates : Option (List Tree)
   pub revocations : Option (List Tree)
@@ -21,7 +21,7 @@ abbrev pub revocations_tree : List Tree → Tree
 revocations_tree ts = node 0xa1 (row ts)
 
 abbrev pub content_type_tree : File → Tree
-content_type_tree f = leaf 6 f.content_type_of
+content_type_tree f = leaf 6 f.content_type
 
 abbrev pub content_info_tree : File → Tree
 content_info_tree f = node 0x30 (more (content_type_tree f) (content_parts f.content))

@@ -44,8 +44,8 @@ IsPlain (segmented segments) = ⊥
 
 -- content of any type and kind, or plain content of the type of time-stamp tokens
 abbrev pub ContentShape : ContentForm → List ℕ → Content → Type 0
-ContentShape Any content_type_of content = Unit {0}
-ContentShape TimeStampInfo content_type_of content = (content_type_of ≡ time_stamp_info_id) × IsPlain content
+ContentShape Any content_type content = Unit {0}
+ContentShape TimeStampInfo content_type content = (content_type ≡ time_stamp_info_id) × IsPlain content
 
 abbrev pub data_version : ℕ → Bool
 data_version v = v == 1 || (v == 3 || (v == 4 || v == 5))
@@ -53,7 +53,7 @@ data_version v = v == 1 || (v == 3 || (v == 4 || v == 5))
 -- the shape of a message
 pub record Shape (settings : Settings) (f : File) : Type 0 where
   pub version : data_version f.version ≡ true
-  pub content : ContentShape settings.content f.content_type_of f.content
+  pub content : ContentShape settings.content f.content_type f.content
   pub certificates : IfThere (AllowedTags certificate_tags) f.certificates
   pub revocations : IfThere (AllowedTags revocation_tags) f.revocations
   pub signers : AllByRecursion SignerShape f.signers

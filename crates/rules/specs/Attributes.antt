@@ -36,7 +36,7 @@ one_value test (v ∷ w ∷ vs) = false
 
 -- the value is the file's content type, byte for byte
 abbrev pub is_content_type : Tree → Tree → Bool
-is_content_type content_type_of v = bytes_eq (encode v) (encode content_type_of)
+is_content_type content_type v = bytes_eq (encode v) (encode content_type)
 
 -- a signer lacks an attribute: content type, message digest, or both kinds of signing certificate
 abbrev pub lacks : List Attribute → Bool
@@ -50,10 +50,10 @@ again (k ∷ ks) before name = (names k name && holds k before) || again ks befo
 
 -- a signed attribute breaks a rule; `before` are those in front of it
 abbrev pub faulty_signed : Tree → List Attribute → Attribute → Bool
-faulty_signed content_type_of before a =
+faulty_signed content_type before a =
     is_among unsigned_kinds a.kind
     || (again signed_kinds before a.kind
-    || ((is_kind ContentType a && not (one_value (is_content_type content_type_of) a.values))
+    || ((is_kind ContentType a && not (one_value (is_content_type content_type) a.values))
     || (is_kind MessageDigest a && not (one_value (λ v. is 4 (tag_of v)) a.values))))
 
 -- the place of the first faulty one, of attributes from `p` on; `before` are those in front of them
@@ -76,13 +76,13 @@ first_misplaced_of p (Some attributes) = first_with misplaced (inside p (unsigne
 
 -- the place of the first broken rule of the signer that begins at `p`: the signer itself where an attribute is lacking
 abbrev pub broken_told_by : Tree → ℕ → Signer → Option ℕ
-broken_told_by content_type_of p s =
+broken_told_by content_type p s =
     cond (lacks s.signed) (Some p)
-    (or_else (first_faulty (faulty_signed content_type_of) [] (inside (signed_at p s) (signed_tree s.signed)) s.signed) (first_misplaced_of (unsigned_at p s) s.unsigned))
+    (or_else (first_faulty (faulty_signed content_type) [] (inside (signed_at p s) (signed_tree s.signed)) s.signed) (first_misplaced_of (unsigned_at p s) s.unsigned))
 
 abbrev pub first_broken_of : Tree → ℕ → List Signer → Option ℕ
-first_broken_of content_type_of p [] = None
-first_broken_of content_type_of p (s ∷ ss) = or_else (broken_told_by content_type_of p s) (first_broken_of content_type_of (behind p (signer_tree s)) ss)
+first_broken_of content_type p [] = None
+first_broken_of content_type p (s ∷ ss) = or_else (broken_told_by content_type p s) (first_broken_of content_type (behind p (signer_tree s)) ss)
 
 -- the place of the first broken rule of a file
 abbrev pub broken_rule_of : File → Option ℕ

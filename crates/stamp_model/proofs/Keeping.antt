@@ -59,7 +59,7 @@ module _ (Kept : Keeping) (k : Carrying Kept) where
   later_same f = record {
     version = refl;
     digests = refl;
-    content_type_of = refl;
+    content_type = refl;
     content = refl;
     certificates = k.same Tree (given f.certificates);
     revocations = k.same Tree (given f.revocations);
@@ -70,7 +70,7 @@ module _ (Kept : Keeping) (k : Carrying Kept) where
   later_through f g h p q = record {
     version = q.version ∙ p.version;
     digests = q.digests ∙ p.digests;
-    content_type_of = q.content_type_of ∙ p.content_type_of;
+    content_type = q.content_type ∙ p.content_type;
     content = q.content ∙ p.content;
     certificates = k.through Tree (given f.certificates) (given g.certificates) (given h.certificates) p.certificates q.certificates;
     revocations = k.through Tree (given f.revocations) (given g.revocations) (given h.revocations) p.revocations q.revocations;
@@ -102,7 +102,7 @@ pub grown_late : (f g : File) → Grown f g → AsLate f g
 grown_late f g p = record {
   version = p.version;
   digests = p.digests;
-  content_type_of = p.content_type_of;
+  content_type = p.content_type;
   content = p.content;
   certificates = begun_included Tree (given f.certificates) (given g.certificates) p.certificates;
   revocations = begun_included Tree (given f.revocations) (given g.revocations) p.revocations;
@@ -161,7 +161,7 @@ six_same s s' q =
 
 pub input_stays : (f f' : File) (s s' : Signer) (digest index : List ℕ) → AsLate f f' → LaterSigner Included s s' → input_of f' s' digest index ≡ input_of f s digest index
 input_stays f f' s s' digest index p q =
-    ap (λ (name : List ℕ). encode (leaf 6 name) ++ (digest ++ (six_bytes s' ++ index))) p.content_type_of
+    ap (λ (name : List ℕ). encode (leaf 6 name) ++ (digest ++ (six_bytes s' ++ index))) p.content_type
     ∙ ap (λ (six : List ℕ). encode (content_type_tree f) ++ (digest ++ (six ++ index))) (six_same s s' q)
 
 pub stamp_stays : StampStays

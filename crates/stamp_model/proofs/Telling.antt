@@ -80,9 +80,9 @@ parts_tell f f' s s' digest digest' x x' k k' l = (
       let t = same_tree (content_type_tree f) (content_type_tree f') 28 (digest ++ (six_bytes s ++ x)) (digest' ++ (six_bytes s' ++ x')) (type_valid f k.valid) (type_valid f' k'.valid) e in
       let d = same_front digest digest' (six_bytes s ++ x) (six_bytes s' ++ x') l t.1 in
       let r = fields_tell s s' x x' (signer_valid f s k) (signer_valid f' s' k') d.1 in
-      record { content_type_of = ap encode t.0; content = d.0; fields = r.0; index = r.1 },
+      record { content_type = ap encode t.0; content = d.0; fields = r.0; index = r.1 },
   λ p.
-      let a = p.content_type_of in
+      let a = p.content_type in
       let b = p.content in
       let c = six_made s s' p.fields in
       let d = p.index in

@@ -30,7 +30,7 @@ pub record LaterSigner (Kept : Keeping) (s s' : Signer) : Type 0 where
 pub record LaterBy (Kept : Keeping) (f f' : File) : Type 0 where
   pub version : f'.version ≡ f.version
   pub digests : f'.digests ≡ f.digests
-  pub content_type_of : f'.content_type_of ≡ f.content_type_of
+  pub content_type : f'.content_type ≡ f.content_type
   pub content : f'.content ≡ f.content
   pub certificates : Kept Tree (given f.certificates) (given f'.certificates)
   pub revocations : Kept Tree (given f.revocations) (given f'.revocations)

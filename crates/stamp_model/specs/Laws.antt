@@ -33,7 +33,7 @@ pub record SameFields (s s' : Signer) : Type 0 where
 
 -- the parts of two imprint inputs are equal, byte for byte
 pub record SameParts (f f' : File) (s s' : Signer) (digest digest' x x' : List ℕ) : Type 0 where
-  pub content_type_of : encode (content_type_tree f) ≡ encode (content_type_tree f')
+  pub content_type : encode (content_type_tree f) ≡ encode (content_type_tree f')
   pub content : digest ≡ digest'
   pub fields : SameFields s s'
   pub index : x ≡ x'

@@ -10,7 +10,7 @@ made c = record { content_type = c.whole.result; content_digest = c.args.content
 
 found : (c : goal.After-part_of) → Found c.args.file.now c.args.message.now c.args.signer.now c.args.content_digest.now c.args.index.now (made c)
 unfolding made
-found c = record { content_type_of = c.whole.ensures; content = refl; fields = c.part_of.ensures; carried = refl }
+found c = record { content_type = c.whole.ensures; content = refl; fields = c.part_of.ensures; carried = refl }
 
 pub returns : goal.returns
 unfolding made
