@@ -7,18 +7,18 @@
 #![tactic(auto)]
 
 mod algorithms;
+mod bounds;
 mod contents;
 mod elements;
 mod indexes;
 mod laws;
-mod limits;
 mod located;
 mod putting;
 mod sizes;
 mod writing;
 
-pub use self::limits::first_too_many_entry;
 pub use algorithms::read_algorithm;
+pub use bounds::first_too_many_entry;
 pub use elements::{ElementLists, Elements};
 pub use indexes::read_index;
 pub use laws::laws_hold;

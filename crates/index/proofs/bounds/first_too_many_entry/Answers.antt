@@ -2,7 +2,7 @@ use Rattle.std.proofs.Common.{ap, ◌∙◌}
 use Rattle.index.specs.declared.located.IndexParts.{IndexParts}
 use Rattle.index.specs.Limits.{first_past_entry}
 use Rattle.index.proofs.EntryLimits.{bytes_past}
-use Rattle.index.proofs.limits.first_too_many_entry.Goals as goal
+use Rattle.index.proofs.bounds.first_too_many_entry.Goals as goal
 
 pub returns : goal.returns
 returns c =
