@@ -134,14 +134,15 @@ def declared(crates):
     return found
 
 
-def turned(text, names, comments):
+def turned(text, names, labels):
     """The text with each of the names respelled, but not behind a dot that follows a value, as in c.in_ok-x."""
-    def one(m):
-        word = m[0]
+
+    def one(match):
+        word = match[0]
         if word not in names:
             return word
-        before = text[: m.start()]
-        if before.endswith(".") and word not in names["labels"]:
+        before = text[: match.start()]
+        if before.endswith(".") and word not in labels:
             qualifier = re.search(r"([\w·+']+)\.$", before)
             if not qualifier or not qualifier[1][0].isupper():
                 return word
@@ -150,18 +151,18 @@ def turned(text, names, comments):
     return re.sub(NAME, one, text)
 
 
-def turned_lines(text, names, mark):
+def in_backquotes(text, names, labels):
+    return re.sub(r"`[^`\n]+`", lambda m: "`" + turned(m[0][1:-1], names, labels) + "`", text)
+
+
+def turned_lines(text, names, labels, mark):
+    """The text respelled line by line; what is behind the mark of a comment keeps its words, but for names in backquotes."""
     out = []
     for line in text.split("\n"):
-        cut = line.find(mark)
-        # a comment keeps its words, but for names in backquotes
+        cut = line.find(mark) if mark else -1
         code, rest = (line, "") if cut < 0 else (line[:cut], line[cut:])
-        out.append(turned(code, names, False) + in_backquotes(rest, names))
+        out.append(turned(code, names, labels) + in_backquotes(rest, names, labels))
     return "\n".join(out)
-
-
-def in_backquotes(text, names):
-    return re.sub(r"`[^`\n]+`", lambda m: "`" + turned(m[0][1:-1], names, True) + "`", text)
 
 
 def labels(crates):
@@ -181,30 +182,32 @@ def labels(crates):
     return found
 
 
+# What begins a comment in each kind of file; an edit has none.
+MARKS = {".antt": "--", ".rt": "//", ".edit": None}
+
+
+def rewrite(path, turn):
+    text = read(path)
+    new = turn(text)
+    if new != text:
+        with open(path, "w", encoding="utf-8") as f:
+            f.write(new)
+
+
 def main(argv):
     crates = "crates"
-    own = declared(crates) | labels(crates)
+    behind_dots = labels(crates)
+    own = declared(crates) | behind_dots
     names = {n: spelled(n) for n in own if (is_word(n) or n in APART) and spelled(n) != n}
     if "--dry" in argv:
         report(crates, own, names)
         return 0
-    names["labels"] = labels(crates)
-    for path in files(crates, (".antt", ".rt", ".edit")):
-        text = read(path)
-        if path.endswith(".edit"):
-            new = turned_lines(text, names, "\0")
-        else:
-            new = turned_lines(text, names, "--" if path.endswith(".antt") else "//")
-        if new != text:
-            with open(path, "w", encoding="utf-8") as f:
-                f.write(new)
+    for path in files(crates, tuple(MARKS)):
+        mark = MARKS[os.path.splitext(path)[1]]
+        rewrite(path, lambda text: turned_lines(text, names, behind_dots, mark))
     for path in [*files("docs", ".md"), "README.md"]:
-        text = read(path)
-        new = in_backquotes(text, names)
-        if new != text:
-            with open(path, "w", encoding="utf-8") as f:
-                f.write(new)
-    print(f"respell: {len(names) - 1} names")
+        rewrite(path, lambda text: in_backquotes(text, names, behind_dots))
+    print(f"respell: {len(names)} names")
     return 0
 
 
