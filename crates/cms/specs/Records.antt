@@ -14,7 +14,7 @@ use Rattle.cms.specs.declared.settings.ContentForm.{ContentForm}
 use Rattle.cms.specs.declared.settings.ContentForm.TheVariants.{Any, TimeStampInfo}
 use Rattle.cms.specs.declared.settings.Settings.{Settings}
 use Rattle.cms.specs.Identifiers.{signed_data_id, time_stamp_info_id}
-use Rattle.fields.specs.Reads.{◌>>=◌, ◌>>◌, Reading, any_of, allowed_of, expect_of, optional_of, number_of, named_of, finish_of, list_of, some_of, maybe_of, behind, entries_in, entries_stop, span_stop}
+use Rattle.fields.specs.Reads.{◌>>=◌, ◌>>◌, Reading, any_of, allowed_of, expect_of, optional_of, number_of, named_of, finish_of, list_of, some_of, list_field, maybe_list, maybe_of, behind, entries_in, entries_stop, span_stop}
 
 -- the tags of certificates and of revocation entries
 abbrev pub certificate_tags : ℕ → Bool
@@ -58,7 +58,7 @@ algorithm_of file at end = do
   Ok whole
 
 abbrev pub signed_of : List ℕ → ℕ → ℕ → Result Entries ℕ
-signed_of file at end = expect_of 0xa0 file at end >>= entries_in (list_of attribute_entry) file
+signed_of = list_field 0xa0 attribute_entry
 
 abbrev pub unsigned_of : List ℕ → ℕ → ℕ → Result (Option Entries) ℕ
 unsigned_of file at end = maybe_of (entries_in (some_of attribute_entry) file) (optional_of 0xa1 file at end)
@@ -108,10 +108,10 @@ signers_in Nobody file at end = do
   Ok 0
 
 abbrev pub certificates_of : List ℕ → ℕ → ℕ → Result (Option Entries) ℕ
-certificates_of file at end = maybe_of (entries_in (list_of (allowed_of certificate_tags)) file) (optional_of 0xa0 file at end)
+certificates_of = maybe_list 0xa0 (allowed_of certificate_tags)
 
 abbrev pub revocations_of : List ℕ → ℕ → ℕ → Result (Option Entries) ℕ
-revocations_of file at end = maybe_of (entries_in (list_of (allowed_of revocation_tags)) file) (optional_of 0xa1 file at end)
+revocations_of = maybe_list 0xa1 (allowed_of revocation_tags)
 
 -- plain content, or segments
 abbrev pub octets_in : List ℕ → Span → Span → Result Content ℕ

@@ -1,10 +1,10 @@
 //! Attributes.
-ghost use Rattle.fields.specs.Reads.{Reads, ReadsMaybe, span_stop, entries_stop};
-ghost use Rattle.cms.specs.Records.{attribute_of, attribute_stop, attribute_entry, signed_of, unsigned_of};
+ghost use Rattle.fields.specs.Reads.{Reads, ReadsMaybe, entries_stop};
+ghost use Rattle.cms.specs.Records.{attribute_of, attribute_stop, attribute_entry, unsigned_of};
 
 use crate::located::Attribute;
 use der::{Reader, Span};
-use fields::{Anything, Entries, Entry, count, count_some, enter, expect, finish, read_optional};
+use fields::{Anything, Entries, Entry, Located, count_some, enter, expect, finish, read_optional};
 
 /// An attribute: its type and at least one value.
 pub fn read_attribute(reader: &mut Reader) -> Result<Attribute, usize>
@@ -23,6 +23,16 @@ pub fn read_attribute(reader: &mut Reader) -> Result<Attribute, usize>
     })
 }
 
+impl Located for Attribute {
+    ghost reading = { attribute_of };
+
+    ghost stop = { attribute_stop };
+
+    fn read(reader: &mut Reader) -> Result<Attribute, usize> {
+        read_attribute(reader)
+    }
+}
+
 pub(crate) struct Attributes;
 
 impl Entry for Attributes {
@@ -32,15 +42,6 @@ impl Entry for Attributes {
         let attribute = read_attribute(reader)?;
         Ok(attribute.whole)
     }
-}
-
-/// The signed attributes: any number.
-pub(crate) fn read_signed(reader: &mut Reader) -> Result<Entries, usize>
-    ensures { Reads signed_of entries_stop reader.old reader.new result }
-{
-    let field = expect(reader, 0xa0)?;
-    let count = count::<Attributes>(enter(reader, field))?;
-    Ok(Entries { field, count })
 }
 
 /// The unsigned attributes, if their field is there: at least one.

@@ -4,7 +4,7 @@ ghost use Rattle.fields.specs.Reads.{Reads, span_stop, any_of, allowed_of, expec
 ghost use Rattle.cms.specs.Records.{certificate_tags, revocation_tags};
 
 use der::{Reader, Span};
-use fields::{Entry, expect, read_any};
+use fields::{Entry, read_allowed};
 
 /// Certificates of each kind that a message may hold.
 pub(crate) struct Certificates;
@@ -13,12 +13,10 @@ impl Entry for Certificates {
     ghost outcome = { allowed_of certificate_tags };
 
     fn read(reader: &mut Reader) -> Result<Span, usize> {
-        let at = reader.at;
-        let element = read_any(reader)?;
-        match element.tag {
-            0x30 | 0xa0 | 0xa1 | 0xa2 | 0xa3 => Ok(element),
-            _ => Err(at),
-        }
+        read_allowed(
+            reader,
+            |tag| matches!(tag, 0x30 | 0xa0 | 0xa1 | 0xa2 | 0xa3),
+        )
     }
 }
 
@@ -29,11 +27,6 @@ impl Entry for Revocations {
     ghost outcome = { allowed_of revocation_tags };
 
     fn read(reader: &mut Reader) -> Result<Span, usize> {
-        let at = reader.at;
-        let element = read_any(reader)?;
-        match element.tag {
-            0x30 | 0xa1 => Ok(element),
-            _ => Err(at),
-        }
+        read_allowed(reader, |tag| matches!(tag, 0x30 | 0xa1))
     }
 }

@@ -1,5 +1,8 @@
 //! Where the parts of a message lie: what a reading finds.
-use der::Span;
+ghost use Rattle.std.specs.Prelude.{◌≡◌};
+ghost use Rattle.der.specs.Spans.{part};
+
+use der::{Element, Span};
 use fields::Entries;
 
 /// An attribute: its type, and the set of its values.
@@ -52,4 +55,17 @@ pub struct Message {
     pub certificates: Option<Entries>,
     pub revocations: Option<Entries>,
     pub signers: Entries,
+}
+
+impl Attribute {
+    /// The contents of its type's identifier, in the bytes that the attribute lies in.
+    pub fn name<'a>(&self, bytes: &'a [u8]) -> &'a [u8]
+        ensures { result.now ≡ part bytes.now self.now.kind.body self.now.kind.end }
+    {
+        let kind = Element {
+            bytes,
+            span: self.kind,
+        };
+        kind.contents()
+    }
 }

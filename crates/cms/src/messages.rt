@@ -4,8 +4,8 @@ ghost use Rattle.der.specs.Spans.{part};
 ghost use Rattle.der.specs.Trees.{Tree, Valid, encode};
 ghost use Rattle.cms.specs.Grammar.{first_break};
 ghost use Rattle.cms.specs.Places.{message_at};
-ghost use Rattle.fields.specs.Reads.{Reads, ReadsMaybe, entries_stop, broke};
-ghost use Rattle.cms.specs.Records.{certificates_of, revocations_of, version_of, data_in, signed_data_in, message_in, message_of};
+ghost use Rattle.fields.specs.Reads.{broke};
+ghost use Rattle.cms.specs.Records.{version_of, data_in, signed_data_in, message_in, message_of};
 
 use crate::contents::read_info;
 use crate::lists::{Certificates, Revocations};
@@ -13,34 +13,10 @@ use crate::located::Message;
 use crate::settings::Settings;
 use crate::signers::count_signers;
 use der::{Reader, Span};
-use fields::{
-    Entries, count, enter, expect, expect_identifier, finish, read_number, read_optional,
-};
+use fields::{Entries, enter, expect, expect_identifier, finish, read_maybe_list, read_number};
 
 /// The content type of signed data.
 const SIGNED_DATA: [u8; 9] = [0x2a, 0x86, 0x48, 0x86, 0xf7, 0x0d, 0x01, 0x07, 0x02];
-
-/// The certificates, if their field is there: any number.
-fn read_certificates(reader: &mut Reader) -> Result<Option<Entries>, usize>
-    ensures { ReadsMaybe certificates_of entries_stop reader.old reader.new result }
-{
-    let Some(field) = read_optional(reader, 0xa0) else {
-        return Ok(None);
-    };
-    let count = count::<Certificates>(enter(reader, field))?;
-    Ok(Some(Entries { field, count }))
-}
-
-/// The revocation entries, if their field is there: any number.
-fn read_revocations(reader: &mut Reader) -> Result<Option<Entries>, usize>
-    ensures { ReadsMaybe revocations_of entries_stop reader.old reader.new result }
-{
-    let Some(field) = read_optional(reader, 0xa1) else {
-        return Ok(None);
-    };
-    let count = count::<Revocations>(enter(reader, field))?;
-    Ok(Some(Entries { field, count }))
-}
 
 /// A version of signed data, which stands at `place`.
 fn check_version(place: usize, version: u8) -> Result<(), usize>
@@ -61,8 +37,8 @@ fn read_data(reader: &Reader, whole: Span, settings: Settings) -> Result<Message
     check_version(whole.body, version.value)?;
     let digests = expect(&mut inside, 0x31)?;
     let info = read_info(&mut inside, settings.content)?;
-    let certificates = read_certificates(&mut inside)?;
-    let revocations = read_revocations(&mut inside)?;
+    let certificates = read_maybe_list::<Certificates>(&mut inside, 0xa0)?;
+    let revocations = read_maybe_list::<Revocations>(&mut inside, 0xa1)?;
     let field = expect(&mut inside, 0x31)?;
     let count = count_signers(enter(&inside, field), settings.signers)?;
     finish(&inside)?;

@@ -3,11 +3,11 @@ ghost use Rattle.std.specs.Prelude.{◌≡◌};
 ghost use Rattle.fields.specs.Reads.{Reads, span_stop};
 ghost use Rattle.cms.specs.Records.{identifier_tag_of, algorithm_of, signer_of, signer_stop, signer_entry, signers_in};
 
-use crate::attributes::{read_signed, read_unsigned};
+use crate::attributes::{Attributes, read_unsigned};
 use crate::located::Signer;
 use crate::settings::SignerCount;
 use der::{Reader, Span};
-use fields::{Entry, count_some, enter, expect, finish, read_number};
+use fields::{Entry, Located, count_some, enter, expect, finish, read_list, read_number};
 
 /// The tag of the identifier that goes with a version, which stands at `place`.
 fn identifier_tag(place: usize, version: u8) -> Result<u8, usize>
@@ -40,7 +40,7 @@ pub fn read_signer(reader: &mut Reader) -> Result<Signer, usize>
     let tag = identifier_tag(whole.body, version.value)?;
     let identifier = expect(&mut inside, tag)?;
     let digest = read_algorithm(&mut inside)?;
-    let signed = read_signed(&mut inside)?;
+    let signed = read_list::<Attributes>(&mut inside, 0xa0)?;
     let algorithm = expect(&mut inside, 0x30)?;
     let signature = expect(&mut inside, 0x04)?;
     let unsigned = read_unsigned(&mut inside)?;
@@ -55,6 +55,16 @@ pub fn read_signer(reader: &mut Reader) -> Result<Signer, usize>
         signature,
         unsigned,
     })
+}
+
+impl Located for Signer {
+    ghost reading = { signer_of };
+
+    ghost stop = { signer_stop };
+
+    fn read(reader: &mut Reader) -> Result<Signer, usize> {
+        read_signer(reader)
+    }
 }
 
 pub(crate) struct Signers;
