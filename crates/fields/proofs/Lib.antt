@@ -4,3 +4,4 @@ pub mod Tags
 pub mod Standing
 pub mod Links
 pub mod Places
+pub mod Runs

@@ -2,3 +2,4 @@ pub mod Reads
 pub mod Rules
 pub mod Placed
 pub mod Stands
+pub mod Runs

@@ -91,10 +91,18 @@ some_of each file at end = cond (nat_lt at end) (list_of each file at end) (Err 
 abbrev pub entries_in : (List ℕ → ℕ → ℕ → Result ℕ ℕ) → List ℕ → Span → Result Entries ℕ
 entries_in counted file field = counted file field.body field.end >>= (λ count. Ok (record { field = field; count = count }))
 
+-- the field of a list, tagged so
+abbrev pub list_field : ℕ → Reading → List ℕ → ℕ → ℕ → Result Entries ℕ
+list_field tag each file at end = expect_of tag file at end >>= entries_in (list_of each) file
+
 -- a field that may be there, with a reading of its contents
 abbrev pub maybe_of : {Y : Type 0} → (Span → Result Y ℕ) → Option Span → Result (Option Y) ℕ
 maybe_of inside None = Ok None
 maybe_of inside (Some field) = inside field >>= (λ y. Ok (Some y))
+
+-- the field of a list, tagged so, that may be there
+abbrev pub maybe_list : ℕ → Reading → List ℕ → ℕ → ℕ → Result (Option Entries) ℕ
+maybe_list tag each file at end = maybe_of (entries_in (list_of each) file) (optional_of tag file at end)
 
 -- the offset behind it, where it would stand at `at`
 abbrev pub behind : {Y : Type 0} → (Y → ℕ) → ℕ → Option Y → ℕ
@@ -114,6 +122,10 @@ entries_stop entries = entries.field.end
 abbrev pub broke : {X : Type 0} → Result X ℕ → Option ℕ
 broke (Ok x) = None
 broke (Err p) = Some p
+
+-- a test answers what is said of every tag
+abbrev pub Tells : (ℕ → Bool → Type 0) → (ℕ → Bool) → Type 0
+Tells answers tags = (tag : ℕ) (b : Bool) → answers tag b → b ≡ tags tag
 
 -- a reader reads: what is defined of its bytes from its offset to its end, and then stands where that stops, further on
 pub record Reads {X : Type 0} (outcome : List ℕ → ℕ → ℕ → Result X ℕ) (stop : X → ℕ) (was is : Reader) (r : Result X ℕ) : Type 0 where

@@ -1,7 +1,7 @@
 //! Single elements of a message, read in turn.
-ghost use Rattle.std.specs.Prelude.{◌≡◌, MatchResult};
+ghost use Rattle.std.specs.Prelude.{◌≡◌, ℕ, Bool, MatchResult};
 ghost use Rattle.std.specs.Str.{bytes_eq};
-ghost use Rattle.fields.specs.Reads.{Reads, FindsOptional, any_of, expect_of, optional_of, finish_of, number_of, named_of, span_stop, number_stop};
+ghost use Rattle.fields.specs.Reads.{Reads, FindsOptional, Tells, any_of, allowed_of, expect_of, optional_of, finish_of, number_of, named_of, span_stop, number_stop};
 
 use crate::located::Number;
 use der::{Element, Reader, Span};
@@ -17,17 +17,25 @@ pub fn read_any(reader: &mut Reader) -> Result<Span, usize>
     }
 }
 
-/// The next element, which must have the tag.
-pub fn expect(reader: &mut Reader, tag: u8) -> Result<Span, usize>
-    ensures { Reads (expect_of tag) span_stop reader.old reader.new result }
+/// The next element, whose tag must be one of those that are allowed.
+pub fn read_allowed<F: FnOnce(u8) -> bool>(reader: &mut Reader, allows: F) -> Result<Span, usize>
+    requires { F.IsAlwaysCallable allows }
+    ensures { (tags : ℕ → Bool) → Tells (F.post allows) tags → Reads (allowed_of tags) span_stop reader.old reader.new result }
 {
     let at = reader.at;
     let element = read_any(reader)?;
-    if element.tag == tag {
+    if allows(element.tag) {
         Ok(element)
     } else {
         Err(at)
     }
+}
+
+/// The next element, which must have the tag.
+pub fn expect(reader: &mut Reader, tag: u8) -> Result<Span, usize>
+    ensures { Reads (expect_of tag) span_stop reader.old reader.new result }
+{
+    read_allowed(reader, |other| other == tag)
 }
 
 /// The next element, if it has the tag.
@@ -35,13 +43,9 @@ pub fn read_optional(reader: &mut Reader, tag: u8) -> Option<Span>
     ensures { FindsOptional tag reader.old reader.new result }
 {
     let mut ahead = *reader;
-    match expect(&mut ahead, tag) {
-        Err(_) => None,
-        Ok(element) => {
-            *reader = ahead;
-            Some(element)
-        }
-    }
+    let element = expect(&mut ahead, tag).ok()?;
+    *reader = ahead;
+    Some(element)
 }
 
 /// A reader of what is inside an element of the reader's bytes.

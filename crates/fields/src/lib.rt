@@ -8,10 +8,13 @@ mod elements;
 mod entries;
 mod kinds;
 mod located;
+mod run;
 
 pub use elements::{
-    enter, expect, expect_identifier, finish, read_any, read_number, read_optional, same,
+    enter, expect, expect_identifier, finish, read_allowed, read_any, read_number, read_optional,
+    same,
 };
-pub use entries::{Entry, count, count_some};
+pub use entries::{Entry, count, count_some, read_list, read_maybe_list};
 pub use kinds::{Anything, Octets};
 pub use located::{Entries, Number};
+pub use run::{Located, Run};

@@ -1,4 +1,3 @@
 pub mod Reading
-pub mod Holding
-pub mod Turning
 pub mod SignerReading
+pub mod Lying

@@ -1,5 +1,5 @@
 -- Attributes that stand in a file are read one by one.
-use Rattle.std.proofs.Common.{◌≡◌, ℕ, ◌+◌, ◌-◌, ◌<◌, ◌≤◌, Bool, not, List, [], ◌∷◌, ◌++◌, length, drop, Some, None, Ok, Err, Option, Result, sym, refl, ap, ◌∙◌, subst, arith}
+use Rattle.std.proofs.Common.{◌≡◌, ℕ, ◌+◌, ◌-◌, ◌≤◌, Bool, not, List, [], ◌∷◌, ◌++◌, length, drop, Some, None, Ok, Err, Option, Result, sym, refl, ap, ◌∙◌, arith}
 use Rattle.std.specs.List.{AllByRecursion}
 use Rattle.std.proofs.lemmas.List.{append_assoc, take-append-drop}
 use Rattle.der.proofs.Parts.{part_front, part_rest}
@@ -16,7 +16,7 @@ use Rattle.fields.specs.Reads.{broke, placed, contents_at}
 use Rattle.cms.specs.Records.{attribute_of}
 use Rattle.fields.specs.Rules.{head_size, body_size, or_else}
 use Rattle.fields.proofs.Steps.{ok_same}
-use Rattle.fields.proofs.Standing.{At, first_read, first_bytes, first_at, none_at, rest_at, inside_at, first_body, none_left}
+use Rattle.fields.proofs.Standing.{At, first_read, first_bytes, none_at, rest_at, inside_at, first_body, none_left}
 use Rattle.cms.proofs.SignerLinks.{link_attribute_of}
 use Rattle.cms.proofs.RecordPlaces.{attribute_of_lies}
 use Rattle.model.specs.Parts.{Attribute, attribute_tree, row_of, row}
@@ -101,38 +101,6 @@ value_compared levels file at end (v ∷ []) s expected whole name b r e w n t =
     let x : whole ≡ encode v = w ∙ ap (λ (y : Span). part file y.start y.end) q ∙ first_bytes levels file at end v none a in
     ap not (t ∙ ap (λ (y : List ℕ). bytes_eq y name) x ∙ ap (bytes_eq (encode v)) n)
 value_compared levels file at end (v ∷ u ∷ vs) s expected whole name b r e w n t = absurd (let z : ◌≡◌ {A = ℕ} 0 1 = cc in omega arith)
-
--- what one turn finds: the first attribute, where it lies, and the others behind it
-pub record Turn (levels : ℕ) (file : List ℕ) (at end : ℕ) (rest : List Attribute) (x : Located) : Type 0 where
-  pub first : Attribute
-  pub tail : List Attribute
-  pub split : rest ≡ first ∷ tail
-  pub there : There (levels - 1 - 1) file x first
-  pub stop : x.whole.end ≡ at + head_size (attribute_tree first) + body_size (attribute_tree first)
-  pub alone : Row levels file at x.whole.end (first ∷ [])
-  pub others : Row levels file x.whole.end end tail
-
-module _ (levels : ℕ) (file : List ℕ) (at end : ℕ) (l : at < end) where
-  pub no_break : (rest : List Attribute) (p : ℕ) → Row levels file at end rest → Err p ≡ attribute_of file at end → ⊥
-  no_break [] p r e = omega (arith, row_none levels file at end r)
-  no_break (a ∷ rest) p r e =
-      let q : ◌≡◌ {A = Result Located ℕ} (Err p) (Ok (attribute_at (record { at = at; tree = attribute_tree a }))) = e ∙ first_attribute levels file at end a rest r in
-      let z : ◌≡◌ {A = ℕ} 0 1 = cc in omega arith
-
-  pub turn : (rest : List Attribute) (x : Located) → Row levels file at end rest → Ok x ≡ attribute_of file at end → Turn levels file at end rest x
-  turn [] x r e = absurd (omega (arith, row_none levels file at end r))
-  turn (a ∷ rest) x r e =
-      let q : attribute_at (record { at = at; tree = attribute_tree a }) ≡ x = sym (ok_same (e ∙ first_attribute levels file at end a rest r)) in
-      let one = first_at levels file at end (attribute_tree a) (row_of attribute_tree rest) (row_at levels file at end (a ∷ rest) r) in
-      subst (Turn levels file at end (a ∷ rest)) q (record {
-        first = a;
-        tail = rest;
-        split = refl;
-        there = first_there levels file at end a rest r;
-        stop = refl;
-        alone = record { valid = one.valid; shape = (r.shape.0, tt); bytes = one.bytes; order = one.order; inside = one.inside };
-        others = others levels file at end a rest r;
-      })
 
 -- rows one behind the other
 all_append : {M : Type 0} (P : M → Type 0) (xs ys : List M) → AllByRecursion P xs → AllByRecursion P ys → AllByRecursion P (xs ++ ys)

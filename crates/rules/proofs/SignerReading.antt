@@ -1,25 +1,18 @@
 -- Signers that stand in a file are read one by one.
-use Rattle.std.proofs.Common.{◌≡◌, ℕ, zero, suc, ◌+◌, ◌-◌, ◌<◌, List, [], ◌∷◌, Some, None, Ok, Err, Option, Result, sym, refl, ap, ◌∙◌, subst, arith}
-use Rattle.der.specs.Trees.{Tree, leaf, node, none, more}
-use Rattle.cms.specs.declared.located.Signer.{Signer as Located}
+use Rattle.std.proofs.Common.{◌≡◌, ℕ, ◌+◌, ◌-◌, List, [], ◌∷◌, Some, None, Ok, Option, refl, ap, subst, arith}
+use Rattle.der.specs.Trees.{leaf, node, none, more}
 use Rattle.fields.specs.Placed.{mapped, entries_for, if_first, placed_from}
 use Rattle.cms.specs.Places.{signer_at}
 use Rattle.cms.specs.Records.{signer_of}
 use Rattle.fields.specs.Rules.{head_size, body_size, or_else}
-use Rattle.fields.proofs.Steps.{ok_same}
 use Rattle.cms.proofs.Served.{signer_served}
 use Rattle.fields.proofs.Standing.{At, rest_at, inside_at, none_left}
 use Rattle.model.specs.Parts.{Attribute, attribute_tree, row_of, maybe, version_tree, identifier_tree, algorithm_tree, signed_tree, unsigned_tree, Signer, signer_tree, six_fields}
 use Rattle.model.specs.Shapes.{UnsignedShape, IfThere}
 use Rattle.model.proofs.Keeping.{signer_kept}
 use Rattle.rules.specs.Offsets.{behind, inside, signed_at, unsigned_at}
-use Rattle.rules.specs.Attributes.{broken_told_by, first_broken_of}
-use Rattle.rules.specs.Signers.{FieldThere, SignerThere, Signers, signer_number}
+use Rattle.rules.specs.Signers.{FieldThere, SignerThere, Signers}
 use Rattle.rules.specs.Standing.{Row}
-
--- the bytes and the end are those that the reader began with
-pub same_signer : (bs bs' : List ℕ) (at end end' : ℕ) (r : Result Located ℕ) → bs ≡ bs' → end ≡ end' → r ≡ signer_of bs at end → r ≡ signer_of bs' at end'
-same_signer bs bs' at end end' r p q e = e ∙ ap (λ (x : List ℕ). signer_of x at end) p ∙ ap (signer_of bs' at) q
 
 pub row_moved : (levels : ℕ) (bs bs' : List ℕ) (at at' end end' : ℕ) (ms : List Attribute) → bs ≡ bs' → at ≡ at' → end ≡ end' → Row levels bs at end ms → Row levels bs' at' end' ms
 row_moved levels bs bs' at at' end end' ms p q e r =
@@ -82,61 +75,3 @@ module _ (levels : ℕ) (file : List ℕ) (at end : ℕ) where
         by (Some ms) k a =
             let i = inside_at (levels - 1) file _ _ (unsigned_tree ms) none a 0xa1 refl (λ z. omega arith) in
             (refl, record { valid = i.valid; shape = k.each; bytes = i.bytes; order = i.order; inside = i.inside })
-
--- what one turn finds: the first signer, where it lies, and the others behind it
-pub record SignerTurn (levels : ℕ) (file : List ℕ) (at end : ℕ) (rest : List Signer) (x : Located) : Type 0 where
-  pub first : Signer
-  pub tail : List Signer
-  pub split : rest ≡ first ∷ tail
-  pub placed : x ≡ signer_at (record { at = at; tree = signer_tree first })
-  pub there : SignerThere (levels - 1 - 1) file x at first
-  pub stop : x.whole.end ≡ behind at (signer_tree first)
-  pub others : Signers levels file x.whole.end end tail
-
-module _ (levels : ℕ) (file : List ℕ) (at end : ℕ) (l : at < end) where
-  pub no_signer_break : (rest : List Signer) (p : ℕ) → Signers levels file at end rest → Err p ≡ signer_of file at end → ⊥
-  no_signer_break [] p r e = omega (arith, signers_none levels file at end r)
-  no_signer_break (s ∷ rest) p r e =
-      let q : ◌≡◌ {A = Result Located ℕ} (Err p) (Ok (signer_at (record { at = at; tree = signer_tree s }))) = e ∙ first_signer levels file at end s rest r in
-      let z : ◌≡◌ {A = ℕ} 0 1 = cc in omega arith
-
-  pub signer_turn : (rest : List Signer) (x : Located) → Signers levels file at end rest → Ok x ≡ signer_of file at end → SignerTurn levels file at end rest x
-  signer_turn [] x r e = absurd (omega (arith, signers_none levels file at end r))
-  signer_turn (s ∷ rest) x r e =
-      let q : signer_at (record { at = at; tree = signer_tree s }) ≡ x = sym (ok_same (e ∙ first_signer levels file at end s rest r)) in
-      subst (SignerTurn levels file at end (s ∷ rest)) q (record {
-        first = s;
-        tail = rest;
-        split = refl;
-        placed = refl;
-        there = signer_there levels file at end s rest r;
-        stop = refl;
-        others = other_signers levels file at end s rest r;
-      })
-
-module _ (expected : Tree) (levels : ℕ) (file : List ℕ) (at end : ℕ) (rest : List Signer) (x : Located) (t : SignerTurn levels file at end rest x) where
-  pub broken_found : (p : ℕ) → Some p ≡ broken_told_by expected at t.first → Some p ≡ first_broken_of expected at rest
-  broken_found p e =
-      sym (ap (first_broken_of expected at) t.split ∙ ap (λ (o : Option ℕ). or_else o (first_broken_of expected (behind at (signer_tree t.first)) t.tail)) (sym e))
-
-  pub broken_missed : None ≡ broken_told_by expected at t.first → first_broken_of expected at rest ≡ first_broken_of expected x.whole.end t.tail
-  broken_missed e =
-      ap (first_broken_of expected at) t.split ∙ ap (λ (o : Option ℕ). or_else o (first_broken_of expected (behind at (signer_tree t.first)) t.tail)) (sym e)
-      ∙ ap (λ (p : ℕ). first_broken_of expected p t.tail) (sym t.stop)
-
-  pub number_found : (n : ℕ) → n ≡ 0 → Some x ≡ signer_number n at rest
-  number_found n z = ap {B = Option Located} Some t.placed ∙ sym (ap (signer_number 0 at) t.split) ∙ ap (λ (k : ℕ). signer_number k at rest) (sym z)
-
-  pub number_missed : (n : ℕ) → (n ≡ 0 → ⊥) → signer_number n at rest ≡ signer_number (n - 1) x.whole.end t.tail
-  number_missed zero z = absurd (z refl)
-  number_missed (suc n) z =
-      let q : suc n - 1 ≡ n = omega arith in
-      ap (signer_number (suc n) at) t.split ∙ ap (λ (p : ℕ). signer_number n p t.tail) (sym t.stop) ∙ ap (λ (k : ℕ). signer_number k x.whole.end t.tail) (sym q)
-
-pub broken_none : (expected : Tree) (levels : ℕ) (file : List ℕ) (at end : ℕ) (rest : List Signer) → Signers levels file at end rest → at ≡ end → None ≡ first_broken_of expected at rest
-broken_none expected levels file at end [] r e = refl
-broken_none expected levels file at end (s ∷ rest) r e = absurd (omega (arith, (other_signers levels file at end s rest r).order))
-
-pub number_none : (n levels : ℕ) (file : List ℕ) (at end : ℕ) (rest : List Signer) → Signers levels file at end rest → at ≡ end → None ≡ signer_number n at rest
-number_none n levels file at end [] r e = refl
-number_none n levels file at end (s ∷ rest) r e = absurd (omega (arith, (other_signers levels file at end s rest r).order))

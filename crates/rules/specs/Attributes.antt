@@ -1,5 +1,6 @@
 -- The rules of attributes, and the place of the first that is broken.
 use Rattle.std.specs.Prelude.{ℕ, Bool, false, cond, not, ◌&&◌, ◌||◌, List, [], ◌∷◌, ◌++◌, Some, None, Option}
+use Rattle.std.specs.List.{list_any}
 use Rattle.std.specs.Str.{bytes_eq}
 use Rattle.der.specs.Trees.{Tree, encode, tag_of}
 use Rattle.fields.specs.Reads.{is}
@@ -20,13 +21,11 @@ is_kind kind a = names kind a.kind
 
 -- the identifier is that of one of these types
 abbrev pub is_among : List AttributeKind → List ℕ → Bool
-is_among [] name = false
-is_among (k ∷ ks) name = names k name || is_among ks name
+is_among kinds name = list_any (λ kind. names kind name) kinds
 
 -- an attribute of the type stands among these
 abbrev pub holds : AttributeKind → List Attribute → Bool
-holds kind [] = false
-holds kind (a ∷ rest) = is_kind kind a || holds kind rest
+holds kind attributes = list_any (is_kind kind) attributes
 
 -- there is one value, and it passes a test
 abbrev pub one_value : (Tree → Bool) → List Tree → Bool
@@ -45,8 +44,7 @@ lacks signed =
 
 -- an attribute stands a second time, where it may stand once
 abbrev pub again : List AttributeKind → List Attribute → List ℕ → Bool
-again [] before name = false
-again (k ∷ ks) before name = (names k name && holds k before) || again ks before name
+again kinds before name = list_any (λ kind. names kind name && holds kind before) kinds
 
 -- a signed attribute breaks a rule; `before` are those in front of it
 abbrev pub faulty_signed : Tree → List Attribute → Attribute → Bool

@@ -4,7 +4,6 @@ ghost use Rattle.std.specs.Str.{bytes_eq};
 ghost use Rattle.rules.specs.Kinds.{kind_bytes};
 
 use crate::kinds::AttributeKind;
-use fields::same;
 
 static CONTENT_TYPE: [u8; 9] = [0x2a, 0x86, 0x48, 0x86, 0xf7, 0x0d, 0x01, 0x09, 0x03];
 
@@ -78,6 +77,6 @@ impl AttributeKind {
     pub fn names(self, contents: &[u8]) -> bool
         ensures { result ≡ bytes_eq contents.now (kind_bytes self) }
     {
-        same(contents, self.identifier())
+        contents == self.identifier()
     }
 }

@@ -10,29 +10,15 @@ ghost use Rattle.rules.specs.Offsets.{inside as in_tree};
 use crate::attributes::{first_faulty_signed, first_misplaced, lacks};
 use crate::forms::{form_by, names_policy};
 use crate::kinds::Form;
-use cms::{Signer, read_signer};
+use cms::Signer;
 use der::Reader;
-use fields::Entries;
-
-/// A reader of what stands in a field.
-fn inside<'a>(file: &'a [u8], entries: Entries) -> Reader<'a>
-    ensures { (result.bytes.now ≡ file.now) × (result.at ≡ entries.field.body) × (result.end ≡ entries.field.end) }
-{
-    Reader {
-        bytes: file,
-        at: entries.field.body,
-        end: entries.field.end,
-    }
-}
+use fields::{Entries, Run};
 
 /// The place of the first unsigned attribute that may stand only among signed ones, if the field is there.
 fn find_misplaced(file: &[u8], unsigned: Option<Entries>) -> Option<usize>
     ensures { (levels p q : ℕ) (u : Option (List Part)) → FieldThere levels file.now p (λ ms. in_tree q (unsigned_tree ms)) unsigned u → result ≡ first_misplaced_of q u }
 {
-    match unsigned {
-        None => None,
-        Some(entries) => first_misplaced(inside(file, entries)),
-    }
+    first_misplaced(unsigned?.inside(file))
 }
 
 /// The place of the first rule that a signer's attributes break: the signer itself where one is lacking.
@@ -40,7 +26,7 @@ fn broken_by(file: &[u8], signer: Signer, content_type: &[u8]) -> Option<usize>
     ensures { (levels p : ℕ) (s : Person) (expected : Tree) → SignerThere levels file.now signer p s
         → content_type.now ≡ encode expected → result ≡ broken_told_by expected p s }
 {
-    let signed = inside(file, signer.signed);
+    let signed = signer.signed.inside(file);
     if lacks(signed) {
         return Some(signer.whole.start);
     }
@@ -56,7 +42,7 @@ pub fn form_of(file: &[u8], signer: Signer) -> Form
 {
     match signer.unsigned {
         None => Form::B,
-        Some(entries) => form_by(inside(file, entries)),
+        Some(entries) => form_by(entries.inside(file)),
     }
 }
 
@@ -64,7 +50,7 @@ pub fn form_of(file: &[u8], signer: Signer) -> Form
 pub fn has_policy(file: &[u8], signer: Signer) -> bool
     ensures { (levels p : ℕ) (s : Person) → SignerThere levels file.now signer p s → result ≡ has_policy_of s }
 {
-    names_policy(inside(file, signer.signed))
+    names_policy(signer.signed.inside(file))
 }
 
 /// The place of the first broken rule among signers from the reader's offset to its end.
@@ -72,11 +58,7 @@ pub fn first_broken(signers: Reader, content_type: &[u8]) -> Option<usize>
     ensures { (levels : ℕ) (ss : List Person) (expected : Tree) → Signers levels signers.entry.bytes.now signers.entry.at signers.entry.end ss
         → content_type.now ≡ encode expected → result ≡ first_broken_of expected signers.entry.at ss }
 {
-    let mut reader = signers;
-    while reader.at < reader.end {
-        let Ok(signer) = read_signer(&mut reader) else {
-            return None;
-        };
+    for signer in Run::<Signer>::of(signers) {
         if let Some(place) = broken_by(signers.bytes, signer, content_type) {
             return Some(place);
         }
@@ -89,16 +71,5 @@ pub fn find_signer(signers: Reader, number: usize) -> Option<Signer>
     ensures { (levels : ℕ) (ss : List Person) → Signers levels signers.entry.bytes.now signers.entry.at signers.entry.end ss
         → result ≡ signer_number number signers.entry.at ss }
 {
-    let mut reader = signers;
-    let mut left = number;
-    while reader.at < reader.end {
-        let Ok(signer) = read_signer(&mut reader) else {
-            return None;
-        };
-        if left == 0 {
-            return Some(signer);
-        }
-        left -= 1;
-    }
-    None
+    Run::<Signer>::of(signers).nth(number)
 }

@@ -1,54 +1,20 @@
-use Rattle.std.proofs.Common.{◌≡◌, ℕ, ◌<◌, sym, ap, ◌∙◌, subst, arith}
-use Rattle.rules.specs.Attributes.{is_among, misplaced, first_with}
+use Rattle.std.proofs.Common.{◌≡◌, rules, tests, ap, sym, ◌∙◌}
+use Rattle.std.proofs.lemmas.Iterator.Consumers.{YieldsList-from_first}
+use Rattle.std.proofs.lemmas.Iterator.Search.{find_from_yields_List}
+use Rattle.std.proofs.lemmas.Iterator.Adapters.{option_map_id}
+use Rattle.fields.specs.Runs.{run_of}
+use Rattle.cms.specs.Records.{attribute_of, attribute_stop}
+use Rattle.rules.specs.Attributes.{is_among}
 use Rattle.rules.specs.Kinds.{signed_kinds}
-use Rattle.rules.specs.Standing.{Row}
-use Rattle.rules.proofs.Reading.{no_break, turn}
-use Rattle.rules.proofs.Turning.{same_reading, same_test, with_found, with_missed, with_none}
+use Rattle.rules.proofs.Lying.{is_named, start_of, find_with, row_lying}
 use Rattle.rules.proofs.attributes.first_misplaced.Goals as goal
-
-pub returns-in_default : goal.returns-in_default
-returns-in_default c = λ levels ms r.
-    let inv = c.loop-reader.invariant in
-    let left = inv.2 levels ms r in
-    let l : c.loop-reader.reader.at < c.args.unsigned.end = omega (arith, inv.1, c.loop-reader-test.true) in
-    absurd (no_break levels c.args.unsigned.bytes.now c.loop-reader.reader.at c.args.unsigned.end l left.0 c.in_default.field-0 left.1
-    (same_reading c.loop-reader.reader.bytes.now c.args.unsigned.bytes.now _ c.loop-reader.reader.end c.args.unsigned.end _ inv.0 inv.1 c.in_default.ensures.value))
-
-pub returns-then-is_signed_only : goal.returns-then-is_signed_only
-returns-then-is_signed_only c = λ levels ms r.
-    let inv = c.loop-reader.invariant in
-    let left = inv.2 levels ms r in
-    let l : c.loop-reader.reader.at < c.args.unsigned.end = omega (arith, inv.1, c.loop-reader-test.true) in
-    let t = turn levels c.args.unsigned.bytes.now c.loop-reader.reader.at c.args.unsigned.end l left.0 c.in-Ok.attribute left.1
-    (same_reading c.loop-reader.reader.bytes.now c.args.unsigned.bytes.now _ c.loop-reader.reader.end c.args.unsigned.end _ inv.0 inv.1 c.in-Ok.ensures.value) in
-    with_found misplaced levels c.args.unsigned.bytes.now c.loop-reader.reader.at c.args.unsigned.end left.0 c.in-Ok.attribute t
-    (same_test (is_among signed_kinds) c.is_signed_only.result _ c.contents.result.now c.read_attribute.new.reader.bytes.now c.args.unsigned.bytes.now t.first.kind c.in-Ok.attribute.kind.body c.in-Ok.attribute.kind.end
-    c.is_signed_only.ensures c.contents.ensures (c.read_attribute.ensures.bytes ∙ inv.0) t.there.kind c.if-is_signed_only.true)
-    ∙ sym left.2
-
-pub loop-reader-preserved : goal.loop-reader-preserved
-loop-reader-preserved c =
-    let inv = c.loop-reader.invariant in (
-      c.read_attribute.ensures.bytes ∙ inv.0,
-      c.read_attribute.ensures.end ∙ inv.1,
-      (λ levels ms r.
-          let left = inv.2 levels ms r in
-          let l : c.loop-reader.reader.at < c.args.unsigned.end = omega (arith, inv.1, c.loop-reader-test.true) in
-          let t = turn levels c.args.unsigned.bytes.now c.loop-reader.reader.at c.args.unsigned.end l left.0 c.in-Ok.attribute left.1
-          (same_reading c.loop-reader.reader.bytes.now c.args.unsigned.bytes.now _ c.loop-reader.reader.end c.args.unsigned.end _ inv.0 inv.1 c.in-Ok.ensures.value) in
-          let m = with_missed misplaced levels c.args.unsigned.bytes.now c.loop-reader.reader.at c.args.unsigned.end left.0 c.in-Ok.attribute t
-          (same_test (is_among signed_kinds) c.is_signed_only.result _ c.contents.result.now c.read_attribute.new.reader.bytes.now c.args.unsigned.bytes.now t.first.kind c.in-Ok.attribute.kind.body c.in-Ok.attribute.kind.end
-          c.is_signed_only.ensures c.contents.ensures (c.read_attribute.ensures.bytes ∙ inv.0) t.there.kind c.if-is_signed_only.false) in
-          let moved = sym c.in-Ok.ensures.moved in (
-            t.tail,
-            subst (λ (a : ℕ). Row levels c.args.unsigned.bytes.now a c.args.unsigned.end t.tail) moved t.others,
-            left.2 ∙ m ∙ ap (λ (a : ℕ). first_with misplaced a t.tail) moved,
-          )),
-    )
 
 pub returns : goal.returns
 returns c = λ levels ms r.
-    let inv = c.loop-reader.invariant in
-    let left = inv.2 levels ms r in
-    let e : c.loop-reader.reader.at ≡ c.args.unsigned.end = omega (arith, inv.1, left.1.order, c.loop-reader-test.false) in
-    with_none misplaced levels c.args.unsigned.bytes.now c.loop-reader.reader.at c.args.unsigned.end left.0 left.1 e ∙ sym left.2
+    let file = c.args.unsigned.bytes.now in
+    let end = c.args.unsigned.end in
+    let found = find_from_yields_List (is_named levels file end (is_among signed_kinds)) c.find.new.self _ c.find.result c.find.ensures.ran
+    (YieldsList-from_first (λ x. x) (λ run. run_of attribute_of attribute_stop run.reader) _ (ap (run_of attribute_of attribute_stop) c.of.ensures)) (λ x b q k. search (rules, tests)) in
+    let there : c.map.result ≡ start_of levels file end c.find.result = search (rules, tests) in
+    there ∙ ap (start_of levels file end) (sym (option_map_id c.find.result) ∙ found)
+    ∙ find_with levels file end (is_among signed_kinds) c.args.unsigned.at ms _ (row_lying levels file end c.args.unsigned.at ms r)
