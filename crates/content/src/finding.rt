@@ -11,7 +11,6 @@ ghost use Rattle.content.specs.Sources.{Found, Served};
 use crate::contents::FileContent;
 use crate::segmented::Segmented;
 use cms::{Content, Message};
-use der::Reader;
 use digest::part::Part;
 use digest::plain::Plain;
 use digest::refusal::Refusal;
@@ -31,12 +30,7 @@ fn source_of<'a>(file: &'a [u8], content: Content) -> Result<Option<FileContent<
             Ok(Some(FileContent::Plain(source)))
         }
         Content::Segmented { segments, .. } => {
-            let inside = Reader {
-                bytes: file,
-                at: segments.field.body,
-                end: segments.field.end,
-            };
-            let source = Segmented::over(inside)?;
+            let source = Segmented::over(segments.inside(file))?;
             Ok(Some(FileContent::Segmented(source)))
         }
     }

@@ -3,7 +3,7 @@ ghost use Rattle.std.specs.Prelude.{◌≡◌};
 ghost use Rattle.der.specs.Causes.{cause_number};
 
 /// What is wrong with an element; each case has its number.
-#[derive(Clone, Copy)]
+#[derive(Clone, Copy, Debug, PartialEq, Eq)]
 pub enum Cause {
     /// A byte is missing, or the contents pass the end of what encloses the element.
     Missing = 1,
@@ -24,13 +24,6 @@ impl Cause {
     pub fn number(self) -> u8
         ensures { result ≡ cause_number self }
     {
-        match self {
-            Cause::Missing => 1,
-            Cause::HighTag => 2,
-            Cause::Indefinite => 3,
-            Cause::HugeLength => 4,
-            Cause::LongLength => 5,
-            Cause::TooDeep => 6,
-        }
+        self as u8
     }
 }

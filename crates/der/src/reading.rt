@@ -10,7 +10,7 @@ use crate::reader::Reader;
 use crate::span::Span;
 
 /// The bytes from one offset up to another, as far as there are any.
-fn part_of<'a>(bytes: &'a [u8], at: usize, end: usize) -> &'a [u8]
+pub fn part_of<'a>(bytes: &'a [u8], at: usize, end: usize) -> &'a [u8]
     ensures { result.now ≡ part bytes.now at end }
 {
     let stop = end.min(bytes.len());

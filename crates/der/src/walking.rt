@@ -28,10 +28,8 @@ pub fn walk_first(bytes: &[u8], levels: u8) -> Result<usize, Fault>
 pub fn walk_one(bytes: &[u8], levels: u8) -> Result<(), Broken>
     ensures { WalkedOne levels bytes.now result }
 {
-    match walk_first(bytes, levels) {
-        Err(fault) => Err(Broken::Faulty(fault)),
-        Ok(end) => nothing_behind(end, bytes.len()),
-    }
+    let end = walk_first(bytes, levels)?;
+    nothing_behind(end, bytes.len())
 }
 
 /// Whether the one element ends where the bytes do.
@@ -83,6 +81,7 @@ fn walk_elements(bytes: &[u8], place: usize, levels: u8) -> Result<(), Fault>
     ensures { MatchResult result (λ _. Forms levels bytes.now) (λ f. InForest levels bytes.now place f) }
 {
     let mut at = 0;
+    // Only the walk of an element tells where the next one begins, so no iterator could hand them out before.
     while at < bytes.len() {
         at += walk_element(&bytes[at..], place + at, levels)?;
     }

@@ -2,7 +2,7 @@
 use Rattle.std.specs.Prelude.{◌≡◌, ℕ, List, [], None, Option, MatchOption}
 use Rattle.std.specs.Borrow.{Bor}
 use Rattle.der.specs.Spans.{part}
-use Rattle.der.specs.Trees.{Tree, Forest, encode, encodes}
+use Rattle.der.specs.Trees.{Tree, Forest, more, Valids, encode, encodes}
 use Rattle.items.specs.declared.item.Kind.{Kind}
 use Rattle.items.specs.declared.item.Kind.TheVariants.{Certificate as CertificateKind, Revocation as RevocationKind, Attribute as AttributeKind, SignerField as SignerFieldKind}
 use Rattle.items.specs.declared.item.Item.{Item}
@@ -30,3 +30,9 @@ HandsOut was is t ts r =
 -- where nothing is left, nothing is handed out
 abbrev pub NothingLeft : Items → Items → Option Handed → Type 0
 NothingLeft was is r = left was ≡ [] → r ≡ None
+
+-- what a list hands out when it is asked for the next item
+pub record Hands (was : Items) (r : Option Handed) (is : Items) : Type 0 where
+  pub stands : (is.reader.bytes.now ≡ was.reader.bytes.now) × (is.reader.end ≡ was.reader.end) × (is.kind ≡ was.kind)
+  pub trees : (t : Tree) (ts : Forest) (levels : ℕ) → Valids (more t ts) levels → left was ≡ encodes (more t ts) → HandsOut was is t ts r
+  pub none : NothingLeft was is r

@@ -24,10 +24,9 @@ pub(crate) fn find_past(inside: Reader, limit: usize) -> Option<usize>
 {
     let mut reader = inside;
     for _ in 0..limit {
-        match reader.next() {
-            Err(_) => return None,
-            Ok(_) => {}
-        }
+        let Ok(_) = reader.next() else {
+            return None;
+        };
     }
     place_left(&reader)
 }

@@ -10,7 +10,6 @@ ghost use Rattle.limits.specs.Past.{entries_past, attributes_past, signers_past,
 
 use crate::counted::{find_past, place_left};
 use cms::{Message, Signer, read_signer};
-use der::Reader;
 use fields::Entries;
 
 /// The most entries of a list, other than that of the signers.
@@ -23,37 +22,26 @@ const MOST_SIGNERS: usize = 8;
 fn find_in_list(file: &[u8], list: Option<Entries>) -> Option<usize>
     ensures { result ≡ entries_past file.now list }
 {
-    let Some(entries) = list else {
-        return None;
-    };
-    let inside = Reader {
-        bytes: file,
-        at: entries.field.body,
-        end: entries.field.end,
-    };
-    find_past(inside, MOST_ENTRIES)
+    find_past(list?.inside(file), MOST_ENTRIES)
 }
 
 /// The place of the first attribute too many of a signer.
 fn find_in_signer(file: &[u8], signer: Signer) -> Option<usize>
     ensures { result ≡ attributes_past file.now signer }
 {
-    match find_in_list(file, Some(signer.signed)) {
-        Some(place) => Some(place),
-        None => find_in_list(file, signer.unsigned),
-    }
+    find_in_list(file, Some(signer.signed)).or_else(|| find_in_list(file, signer.unsigned))
 }
 
 /// The place of the first signer past the limit, or of the first attribute too many of one before it.
-fn find_in_signers(inside: Reader, limit: usize) -> Option<usize>
-    ensures { result ≡ signers_past limit inside.entry.bytes.now inside.entry.at inside.entry.end }
+fn find_in_signers(file: &[u8], signers: Entries, limit: usize) -> Option<usize>
+    ensures { result ≡ signers_past limit file.now signers.field.body signers.field.end }
 {
-    let mut reader = inside;
+    let mut reader = signers.inside(file);
     for _ in 0..limit {
         let Ok(signer) = read_signer(&mut reader) else {
             return None;
         };
-        if let Some(place) = find_in_signer(reader.bytes, signer) {
+        if let Some(place) = find_in_signer(file, signer) {
             return Some(place);
         }
     }
@@ -64,18 +52,9 @@ fn find_in_signers(inside: Reader, limit: usize) -> Option<usize>
 fn find_in_message(file: &[u8], message: &Message) -> Option<usize>
     ensures { result ≡ first_past file.now message.now }
 {
-    if let Some(place) = find_in_list(file, message.certificates) {
-        return Some(place);
-    }
-    if let Some(place) = find_in_list(file, message.revocations) {
-        return Some(place);
-    }
-    let signers = Reader {
-        bytes: file,
-        at: message.signers.field.body,
-        end: message.signers.field.end,
-    };
-    find_in_signers(signers, MOST_SIGNERS)
+    find_in_list(file, message.certificates)
+        .or_else(|| find_in_list(file, message.revocations))
+        .or_else(|| find_in_signers(file, message.signers, MOST_SIGNERS))
 }
 
 /// The place of the first element too many of a file, in reading order; none where every list keeps its limit.

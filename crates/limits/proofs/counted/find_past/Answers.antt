@@ -14,11 +14,11 @@ same_element file bytes at stop end r p q e = ap (placed at) (sym e ∙ ap (λ (
 pub loop-init : goal.loop-init
 loop-init c = (refl, refl, past_all any_of span_stop (λ _ _. None) c.args.inside.bytes.now c.args.inside.end c.args.limit c.args.inside.at)
 
-pub returns-in-Err : goal.returns-in-Err
-returns-in-Err c =
+pub returns-in_default : goal.returns-in_default
+returns-in_default c =
     let inv = c.loop.invariant in
     sym (inv.2 ∙ past_none any_of span_stop (λ _ _. None) c.args.inside.bytes.now c.args.inside.end c.args.limit c.loop.counter c.loop.reader.at _ c.loop-test.true
-    (same_element _ _ _ _ _ _ inv.0 inv.1 c.in-Err.ensures.reads.read))
+    (same_element _ _ _ _ _ _ inv.0 inv.1 c.in_default.ensures.reads.read))
 
 pub loop-preserved : goal.loop-preserved
 loop-preserved c =

@@ -1,7 +1,7 @@
-use Rattle.std.proofs.Common.{◌≡◌, ℕ, List, Result, sym, refl, ap, ◌∙◌}
+use Rattle.std.proofs.Common.{◌≡◌, ℕ, ◌-◌, List, Result, sym, refl, ap, ◌∙◌}
 use Rattle.cms.specs.declared.located.Signer.{Signer}
 use Rattle.cms.specs.Records.{signer_of, signer_stop}
-use Rattle.limits.specs.Past.{left_of, attributes_past}
+use Rattle.limits.specs.Past.{left_of, attributes_past, signers_past}
 use Rattle.limits.proofs.Behind.{past_all, past_done, past_none, past_found, past_on}
 use Rattle.limits.proofs.lists.find_in_signers.Goals as goal
 
@@ -10,21 +10,22 @@ same_signer : (file bytes : List ℕ) (at stop end : ℕ) (r : Result Signer ℕ
 same_signer file bytes at stop end r p q e = e ∙ ap (λ (x : List ℕ). signer_of x at stop) p ∙ ap (signer_of file at) q
 
 pub loop-init : goal.loop-init
-loop-init c = (refl, refl, past_all signer_of signer_stop attributes_past c.args.inside.bytes.now c.args.inside.end c.args.limit c.args.inside.at)
+loop-init c =
+    let i = c.inside-reader.ensures in
+    (i.0, i.2, past_all signer_of signer_stop attributes_past c.args.file.now c.args.signers.field.end c.args.limit c.args.signers.field.body ∙ ap (λ (at : ℕ). signers_past (c.args.limit - 0) c.args.file.now at c.args.signers.field.end) (sym i.1))
 
 pub returns-in_default : goal.returns-in_default
 returns-in_default c =
     let inv = c.loop.invariant in
-    sym (inv.2 ∙ past_none signer_of signer_stop attributes_past c.args.inside.bytes.now c.args.inside.end c.args.limit c.loop.counter c.loop.reader.at _ c.loop-test.true
+    sym (inv.2 ∙ past_none signer_of signer_stop attributes_past c.args.file.now c.args.signers.field.end c.args.limit c.loop.counter c.loop.reader.at _ c.loop-test.true
     (same_signer _ _ _ _ _ _ inv.0 inv.1 c.in_default.ensures.value))
 
 pub returns-in-Some : goal.returns-in-Some
 returns-in-Some c =
     let inv = c.loop.invariant in
-    let same = c.read_signer.ensures.bytes ∙ inv.0 in
-    sym (inv.2 ∙ past_found signer_of signer_stop attributes_past c.args.inside.bytes.now c.args.inside.end c.args.limit c.loop.counter c.loop.reader.at _ _ c.loop-test.true
+    sym (inv.2 ∙ past_found signer_of signer_stop attributes_past c.args.file.now c.args.signers.field.end c.args.limit c.loop.counter c.loop.reader.at _ _ c.loop-test.true
     (same_signer _ _ _ _ _ _ inv.0 inv.1 c.in-Ok.ensures.value)
-    (sym (c.in-Some.ensures ∙ ap (λ (x : List ℕ). attributes_past x c.in-Ok.signer) same)))
+    (sym c.in-Some.ensures))
 
 pub loop-preserved : goal.loop-preserved
 loop-preserved c =
@@ -33,13 +34,13 @@ loop-preserved c =
     let same = read.bytes ∙ inv.0 in (
       same,
       read.end ∙ inv.1,
-      inv.2 ∙ past_on signer_of signer_stop attributes_past c.args.inside.bytes.now c.args.inside.end c.args.limit c.loop.counter c.loop.reader.at _ _ c.loop-test.true
+      inv.2 ∙ past_on signer_of signer_stop attributes_past c.args.file.now c.args.signers.field.end c.args.limit c.loop.counter c.loop.reader.at _ _ c.loop-test.true
           (same_signer _ _ _ _ _ _ inv.0 inv.1 c.in-Ok.ensures.value)
-          (sym (c.in_default-find_in_signer.ensures ∙ ap (λ (x : List ℕ). attributes_past x c.in-Ok.signer) same)) c.in-Ok.ensures.moved,
+          (sym c.in_default-find_in_signer.ensures) c.in-Ok.ensures.moved,
     )
 
 pub returns : goal.returns
 returns c =
     let inv = c.loop.invariant in
     c.place_left.ensures ∙ ap (left_of c.loop.reader.at) inv.1
-    ∙ sym (inv.2 ∙ past_done signer_of signer_stop attributes_past c.args.inside.bytes.now c.args.inside.end c.args.limit c.loop.counter c.loop.reader.at c.loop-test.false)
+    ∙ sym (inv.2 ∙ past_done signer_of signer_stop attributes_past c.args.file.now c.args.signers.field.end c.args.limit c.loop.counter c.loop.reader.at c.loop-test.false)

@@ -3,7 +3,7 @@ use Rattle.der.specs.declared.fault.Fault.{Fault}
 use Rattle.der.specs.declared.span.Span.{Span}
 use Rattle.der.specs.Head.{header_of}
 use Rattle.der.specs.Spans.{part, element_of, spanned}
-use Rattle.items.proofs.items.Items.next.Goals as goal
+use Rattle.items.proofs.handing.ItemsIterator.next.Goals as goal
 
 -- an element is none where no byte is left
 none_read : (file : List ℕ) (at end : ℕ) (s : Span) → element_of file at end ≡ Ok s → part file at end ≡ [] → ⊥
@@ -11,8 +11,8 @@ none_read file at end s e z =
     let q : ◌≡◌ {A = Result Span Fault} (spanned at (header_of [])) (Ok s) = sym (ap (λ (x : List ℕ). spanned at (header_of x)) z) ∙ e in
     let n : ◌≡◌ {A = ℕ} 0 1 = cc in omega arith
 
-pub returns-in-Ok : goal.returns-in-Ok
-returns-in-Ok c =
+pub returns-clause-steps : goal.returns-clause-steps
+returns-clause-steps c =
     let same = c.next.ensures.stands in
     let reads = c.in-Ok.ensures.reads in
     record {
