@@ -5,6 +5,9 @@ ghost use Rattle.digest.specs.Took.{Took, Wrote};
 
 use crate::refusal::Refusal;
 
+/// The most bytes that a digest takes.
+pub const MOST_TAKEN: usize = 16_777_216;
+
 /// A digest that bytes are given to block by block.
 pub trait Digest: Sized + Drop {
     /// The lists of bytes that a state stands for.

@@ -4,6 +4,7 @@
 //! `plain` is the source over bytes that lie in one piece.
 #![tactic(auto)]
 
+pub mod cutting;
 pub mod digesting;
 pub mod interface;
 pub mod making;

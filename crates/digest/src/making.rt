@@ -1,19 +1,13 @@
 //! Making a plain source: over bytes, or over a part of one of two slices.
-ghost use Rattle.std.specs.Prelude.{◌≡◌, ◌<◌, ◌≤◌, length};
-ghost use Rattle.digest.specs.Parts.{between, part_of};
+ghost use Rattle.std.specs.Prelude.{◌≡◌};
+ghost use Rattle.digest.specs.Parts.{part_of};
 ghost use Rattle.digest.specs.Plains.{Made};
 
+use crate::cutting::clip;
 use crate::part::Part;
-use crate::plain::{MOST, Plain};
+use crate::plain::Plain;
 use crate::refusal::Refusal;
-
-/// The bytes at the places from `from` up to `to` that the slice has.
-fn clip(bytes: &[u8], from: usize, to: usize) -> &[u8]
-    ensures { result.now ≡ between bytes.now from to }
-{
-    let end = to.min(bytes.len());
-    if from < end { &bytes[from..end] } else { &[] }
-}
+use crate::source::MOST_BYTES;
 
 /// The bytes of the part that its slice has; none where the part ends before it begins.
 pub fn part_of<'a>(buffer: &'a [u8], detached: &'a [u8], part: Part) -> &'a [u8]
@@ -30,7 +24,7 @@ impl<'a> Plain<'a> {
     pub fn over(bytes: &'a [u8]) -> Result<Plain<'a>, Refusal>
         ensures { Made bytes.now result }
     {
-        if bytes.len() > MOST {
+        if bytes.len() > MOST_BYTES {
             return Err(Refusal::LongSource);
         }
         Ok(Plain { bytes })

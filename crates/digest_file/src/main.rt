@@ -50,39 +50,55 @@ impl Digests {
     }
 }
 
-/// Reads a block of standard input and gives it to the digests; answers how many bytes came.
-fn take_block(rt: &HostRuntime, digests: &mut Digests) -> io::Result<Result<usize, Refusal>> {
-    let mut block = [0u8; 65536];
-    let count = rt.stdin().read(&mut block)?;
-    match digests.take(&block[0..count]) {
-        Ok(()) => Ok(Ok(count)),
-        Err(refusal) => Ok(Err(refusal)),
+/// Why the input has no digests.
+#[derive(Drop)]
+enum InputError {
+    Refused(Refusal),
+    Failed(io::Error),
+}
+
+impl From<Refusal> for InputError {
+    fn from(refusal: Refusal) -> InputError {
+        InputError::Refused(refusal)
     }
 }
 
+impl From<io::Error> for InputError {
+    fn from(error: io::Error) -> InputError {
+        InputError::Failed(error)
+    }
+}
+
+/// Reads a block of standard input and gives it to the digests; answers how many bytes came.
+fn take_block(rt: &HostRuntime, digests: &mut Digests) -> Result<usize, InputError> {
+    let mut block = [0u8; 65536];
+    let count = rt.stdin().read(&mut block)?;
+    digests.take(&block[..count])?;
+    Ok(count)
+}
+
 /// Gives all of standard input to the digests.
-fn take_input(rt: &HostRuntime, digests: &mut Digests) -> io::Result<Result<(), Refusal>> {
+fn take_input(rt: &HostRuntime, digests: &mut Digests) -> Result<(), InputError> {
     for _ in 0..u64::MAX {
-        match take_block(rt, digests)? {
-            Ok(0) => break,
-            Ok(_) => {}
-            Err(refusal) => return Ok(Err(refusal)),
+        if take_block(rt, digests)? == 0 {
+            break;
         }
     }
-    Ok(Ok(()))
+    Ok(())
 }
 
 fn run(rt: &HostRuntime) -> anyhow::Result<()> {
     let mut digests = Digests::start();
-    match take_input(rt, &mut digests)? {
+    match take_input(rt, &mut digests) {
         Ok(()) => {
             let lines = digests.lines(rt.alloc())?;
             rt.stdout().write_all(lines.as_slice())?;
         }
-        Err(refusal) => {
+        Err(InputError::Refused(refusal)) => {
             let number = refusal.number();
             println!(rt; "refused {number}")?;
         }
+        Err(InputError::Failed(error)) => return Err(error.into()),
     }
     Ok(())
 }

@@ -10,11 +10,27 @@ use sha256::state::Sha256;
 use std::env;
 use std::io::{Read, Write};
 
+#[derive(Clone, Copy)]
+enum Algorithm {
+    Sha256,
+    Sha3,
+}
+
+impl Algorithm {
+    /// The algorithm that a word asks for: SHA-256, unless the word is `sha3-256`.
+    fn named(word: &str) -> Algorithm {
+        match word {
+            "sha3-256" => Algorithm::Sha3,
+            _ => Algorithm::Sha256,
+        }
+    }
+}
+
 /// What is asked for.
 #[derive(Drop)]
 struct Order {
     times: u32,
-    sha3: bool,
+    algorithm: Algorithm,
 }
 
 fn repeat<G: Digest>(bytes: &[u8], times: u32, area: &mut [u8]) {
@@ -30,11 +46,11 @@ fn read_order(rt: &HostRuntime) -> anyhow::Result<Order> {
         Some(word) => word.as_str().parse::<u32>()?,
         None => 1,
     };
-    let sha3 = match args.next() {
-        Some(word) => word.as_str() == "sha3-256",
-        None => false,
+    let algorithm = match args.next() {
+        Some(word) => Algorithm::named(word.as_str()),
+        None => Algorithm::Sha256,
     };
-    Ok(Order { times, sha3 })
+    Ok(Order { times, algorithm })
 }
 
 fn run(rt: &HostRuntime) -> anyhow::Result<()> {
@@ -42,10 +58,9 @@ fn run(rt: &HostRuntime) -> anyhow::Result<()> {
     rt.stdin().read_to_end(&mut bytes)?;
     let mut area = [0u8; 32];
     let order = read_order(rt)?;
-    if order.sha3 {
-        repeat::<Sha3>(bytes.as_slice(), order.times, &mut area);
-    } else {
-        repeat::<Sha256>(bytes.as_slice(), order.times, &mut area);
+    match order.algorithm {
+        Algorithm::Sha256 => repeat::<Sha256>(bytes.as_slice(), order.times, &mut area),
+        Algorithm::Sha3 => repeat::<Sha3>(bytes.as_slice(), order.times, &mut area),
     }
     let line = hex_line(rt.alloc(), b"", &area, b"  -\n")?;
     rt.stdout().write_all(line.as_slice())?;

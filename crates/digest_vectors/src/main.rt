@@ -29,23 +29,17 @@ const BITS_896: &[u8; 112] =
 
 /// Bytes that repeat every 251, so that no two blocks are alike.
 fn pattern(heap: Global, length: usize) -> Result<Vec<u8>, AllocError> {
-    let mut bytes = Vec::new(heap);
-    for i in 0..length {
-        bytes.push((i % 251) as u8)?;
-    }
-    Ok(bytes)
+    (0..length).map(|i| (i % 251) as u8).collect(heap)
 }
 
-/// Gives the message to the state in blocks of `step` bytes, and the rest.
+/// Gives the message to the state in blocks of `step` bytes; the last may be shorter.
 fn feed<G: Digest>(state: &mut G, message: &[u8], step: usize) -> Result<(), Refusal>
     requires { 0 < step }
 {
-    let mut rest = message;
-    while rest.len() > step {
-        state.take(&rest[0..step])?;
-        rest = &rest[step..];
+    for block in message.chunks(step) {
+        state.take(block)?;
     }
-    state.take(rest)
+    Ok(())
 }
 
 fn show<G: Digest>(
@@ -76,9 +70,7 @@ fn show_steps<G: Digest>(
     message: &[u8],
 ) -> anyhow::Result<()> {
     for step in STEPS {
-        if step > 0 {
-            show::<G>(rt, digest, name, message, step)?;
-        }
+        show::<G>(rt, digest, name, message, step)?;
     }
     Ok(())
 }

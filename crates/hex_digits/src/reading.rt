@@ -21,6 +21,7 @@ fn value(digit: u8) -> Option<u8>
 pub fn read_hex(heap: Global, text: &[u8]) -> Result<Option<Vec<u8>>, AllocError>
     ensures { IfOk result (λ bytes. MatchOption bytes (bytes_of text.now ≡ None) (λ items. bytes_of text.now ≡ Some items.items)) }
 {
+    // Not `hex::decode`: it reads upper case too, which is refused here.
     let mut bytes = Vec::new(heap);
     let mut rest = text;
     while let [high, low, tail @ ..] = rest {
