@@ -10,13 +10,16 @@ use Rattle.cms.specs.Places.{signer_at, message_at}
 use Rattle.fields.specs.Reads.{behind, entries_stop}
 use Rattle.fields.specs.Rules.{parts_of, head_size, body_size}
 use Rattle.model.specs.Parts.{row_of, maybe, attribute_tree, Signer, signer_tree}
-use Rattle.model.specs.Files.{File, certificates_tree, revocations_tree, signers_tree, file_tree}
+use Rattle.model.specs.Files.{File, certificates_tree, revocations_tree, signers_tree, file_tree, file_bytes}
 use Rattle.rules.specs.Offsets.{skip_maybe}
 use Rattle.rules.specs.Signers.{signer_number}
-use Rattle.append.specs.Appended.{with_certificates, with_revocations, with_attributes}
-use Rattle.append.specs.Listed.{FileAt, outer_at, certificates_path_of, revocations_path_of, attributes_path_of}
+use Rattle.append.specs.Appended.{with_certificates, with_revocations, with_attributes, Addition, certificates, revocations, attributes, with_more, addition_bytes}
+use Rattle.append.specs.declared.list.GrowingList.{GrowingList}
+use Rattle.append.specs.declared.list.GrowingList.TheVariants.{Certificates, Revocations, Attributes}
+use Rattle.append.specs.declared.place.Place.{Place}
+use Rattle.append.specs.Listed.{FileAt, outer_at, path_of, offsets, IsPlace, Joins}
 use Rattle.append.proofs.Inside.{length_encode, outermost, step_behind, step_maybe, step_within}
-use Rattle.append.proofs.Held.{Held, held, held_at}
+use Rattle.append.proofs.Held.{Held, HeldFor, held, held_at, held_for, held_tag}
 use Rattle.append.proofs.Signing.{find_signer_lem, unsigned_there}
 
 low_seq : OneByteTag 0x30
@@ -73,25 +76,28 @@ outer_is at t =
     let size : s + head_size t + body_size t - s ≡ length (encode t ++ []) = omega (arith, length_encode t, length-append (encode t) []) in
     omega (arith, ap header_size_of size)
 
+abbrev attributes_path : Located → Message → File → List ℕ
+attributes_path x m f = x.signature.end ∷ x.whole.start ∷ m.signers.field.start ∷ m.whole.start ∷ outer_at f ∷ 0 ∷ []
+
 -- each list of a file is held where the record says
 module _ {bytes : List ℕ} {m : Message} (f : File) (a : FileAt bytes m f) {path : List ℕ} {there : Bool} where
-  pub certificates_held : path ≡ certificates_path_of m f → there ≡ is_some m.certificates → Held (λ t. t) bytes path there 0xa0 (λ new. with_certificates new f)
+  certificates_held : path ≡ path_of Certificates m f → there ≡ is_some m.certificates → Held (λ t. t) bytes path there 0xa0 (λ new. with_certificates new f)
   certificates_held p t =
       let fields = step_within (step_within (step_behind (outermost 0x30 (parts_of (file_tree f)) a.bytes_are low_seq)) low_zero) low_seq in
-      held_at (p ∙ ap (λ (m : Message). certificates_path_of m f) a.parts)
+      held_at (p ∙ ap (λ (m : Message). path_of Certificates m f) a.parts)
       (t ∙ ap (λ (m : Message). is_some m.certificates) a.parts ∙ certificates_there _ f.certificates f.revocations f.signers)
       (held (λ t. t) 0xa0 (from_revocations f.revocations f.signers) low_zero (λ new. with_certificates new f) f.certificates (step_behind (step_behind (step_behind fields))) (λ new. refl))
 
-  pub revocations_held : path ≡ revocations_path_of m f → there ≡ is_some m.revocations → Held (λ t. t) bytes path there 0xa1 (λ new. with_revocations new f)
+  revocations_held : path ≡ path_of Revocations m f → there ≡ is_some m.revocations → Held (λ t. t) bytes path there 0xa1 (λ new. with_revocations new f)
   revocations_held p t =
       let fields = step_within (step_within (step_behind (outermost 0x30 (parts_of (file_tree f)) a.bytes_are low_seq)) low_zero) low_seq in
       held_at
-      (p ∙ ap (λ (m : Message). revocations_path_of m f) a.parts
+      (p ∙ ap (λ (m : Message). path_of Revocations m f) a.parts
       ∙ ap (λ (x : ℕ). x ∷ (message_at 0 (file_tree f)).whole.start ∷ outer_at f ∷ 0 ∷ []) (revocations_from _ f.certificates f.revocations f.signers))
       (t ∙ ap (λ (m : Message). is_some m.revocations) a.parts ∙ revocations_there _ f.certificates f.revocations f.signers)
       (held (λ t. t) 0xa1 (from_signers f.signers) low_one (λ new. with_revocations new f) f.revocations (step_maybe certificates_tree f.certificates (step_behind (step_behind (step_behind fields)))) (λ new. refl))
 
-  pub attributes_held : (n : ℕ) {x : Located} → signer_number n m.signers.field.body f.signers ≡ Some x → path ≡ attributes_path_of m x f → there ≡ is_some x.unsigned →
+  attributes_held : (n : ℕ) {x : Located} → signer_number n m.signers.field.body f.signers ≡ Some x → path ≡ attributes_path x m f → there ≡ is_some x.unsigned →
       Held attribute_tree bytes path there 0xa1 (λ new. with_attributes n new f)
   attributes_held n {x} q p t =
       let fields = step_within (step_within (step_behind (outermost 0x30 (parts_of (file_tree f)) a.bytes_are low_seq)) low_zero) low_seq in
@@ -103,8 +109,22 @@ module _ {bytes : List ℕ} {m : Message} (f : File) (a : FileAt bytes m f) {pat
       let person : Signer = found.signer in
       let y : Located = signer_at (record { at = found.at; tree = signer_tree person }) in
       held_at
-      (p ∙ ap (λ (x : Located). attributes_path_of m x f) found.is ∙ ap (λ (m : Message). attributes_path_of m y f) a.parts
+      (p ∙ ap (λ (x : Located). attributes_path x m f) found.is ∙ ap (λ (m : Message). attributes_path y m f) a.parts
       ∙ ap (λ (x : Placed). y.signature.end ∷ y.whole.start ∷ x.at ∷ (message_at 0 (file_tree f)).whole.start ∷ outer_at f ∷ 0 ∷ []) at)
       (t ∙ ap (λ (x : Located). is_some x.unsigned) found.is ∙ unsigned_there _ person.unsigned)
       (held attribute_tree 0xa1 none low_one (λ new. with_attributes n new f) person.unsigned
       (step_behind (step_behind (step_behind (step_behind (step_behind (step_behind (step_within found.inside low_seq))))))) found.again)
+
+-- and so is each place, for what joins it
+module _ {bytes : List ℕ} {m : Message} (f : File) (a : FileAt bytes m f) {place : Place} where
+  pub place_held : (list : GrowingList) (new : Addition) → Joins new list m f → IsPlace list m f place →
+      HeldFor bytes (offsets place.path) place.there place.tag (addition_bytes new) (file_bytes (with_more new f))
+  place_held Certificates (certificates new) j i = held_tag i.tag (held_for (certificates_held f a i.path i.there) new)
+  place_held Revocations (revocations new) j i = held_tag i.tag (held_for (revocations_held f a i.path i.there) new)
+  place_held (Attributes s) (attributes n new) j i = held_tag i.tag (held_for (attributes_held f a n j i.path i.there) new)
+  place_held Certificates (revocations new) j i = absurd j
+  place_held Certificates (attributes n new) j i = absurd j
+  place_held Revocations (certificates new) j i = absurd j
+  place_held Revocations (attributes n new) j i = absurd j
+  place_held (Attributes s) (certificates new) j i = absurd j
+  place_held (Attributes s) (revocations new) j i = absurd j

@@ -5,6 +5,7 @@ use Rattle.der.specs.Trees.{Tree, node, Forest, more, OneByteTag, framed, encode
 use Rattle.model.specs.Parts.{row_of, maybe}
 use Rattle.model.specs.Files.{File, file_tree, file_bytes}
 use Rattle.grow.specs.Frames.{Frame, plug}
+use Rattle.grow.specs.declared.file.GrowingFile.{GrowingFile}
 use Rattle.grow.specs.declared.full.Full.{Full}
 use Rattle.grow.specs.Changes.{Encloses, Changed, fitting}
 use Rattle.append.specs.Appended.{given}
@@ -64,20 +65,35 @@ pub held_at : {M : Type 0} {tree : M → Tree} {file path path' : List ℕ} {the
 held_at {M} {tree} {file} {path} {path'} {there} {there'} {tag} {changed} p t h =
     subst (λ (x : List ℕ). Held tree file x there tag changed) (sym p) (subst (λ (b : Bool). Held tree file path' b tag changed) (sym t) h)
 
--- what is promised of the list holds of the file
-module _ {M : Type 0} {tree : M → Tree} {file path : List ℕ} {there : Bool} {tag : ℕ} {changed : List M → File} (h : Held tree file path there tag changed) where
-  pub held_changed : (was is : List ℕ) (r : Result ℕ Full) (run : List ℕ) (new : List M) → run ≡ encodes (row_of tree new) →
-      ((fs : List Frame) (before after old : List ℕ) → ListAt there file path fs before tag after old → Changed was is r (plug fs (before ++ (framed tag (old ++ run) ++ after)))) →
-      Changed was is r (file_bytes (changed new))
-  held_changed was is r run new e c =
+-- what is promised of a list holds of the file, for what is appended to it
+pub record HeldFor (file path : List ℕ) (there : Bool) (tag : ℕ) (run grown : List ℕ) : Type 0 where
+  pub fs : List Frame
+  pub before : List ℕ
+  pub after : List ℕ
+  pub old : List ℕ
+  pub list : ListAt there file path fs before tag after old
+  pub again : plug fs (before ++ (framed tag (old ++ run) ++ after)) ≡ grown
+
+pub held_for : {M : Type 0} {tree : M → Tree} {file path : List ℕ} {there : Bool} {tag : ℕ} {changed : List M → File} → Held tree file path there tag changed → (new : List M) →
+    HeldFor file path there tag (encodes (row_of tree new)) (file_bytes (changed new))
+held_for h new = record { fs = h.fs; before = h.before; after = h.after; old = h.old; list = h.list; again = h.again new }
+
+pub held_tag : {file path : List ℕ} {there : Bool} {tag tag' : ℕ} {run grown : List ℕ} → tag' ≡ tag → HeldFor file path there tag run grown → HeldFor file path there tag' run grown
+held_tag {file} {path} {there} {tag} {tag'} {run} {grown} e h = subst (λ (x : ℕ). HeldFor file path there x run grown) (sym e) h
+
+module _ {file path : List ℕ} {there : Bool} {tag : ℕ} {run grown : List ℕ} (h : HeldFor file path there tag run grown) where
+  pub held_changed : (was is : GrowingFile) (r : Result ℕ Full) (new : List ℕ) → new ≡ run →
+      ((fs : List Frame) (before after old : List ℕ) → ListAt there file path fs before tag after old → Changed was is r (plug fs (before ++ (framed tag (old ++ new) ++ after)))) →
+      Changed was is r grown
+  held_changed was is r new e c =
       subst (λ (x : List ℕ). Changed was is r x)
-      (ap (λ (x : List ℕ). plug h.fs (h.before ++ (framed tag (h.old ++ x) ++ h.after))) e ∙ h.again new)
+      (ap (λ (x : List ℕ). plug h.fs (h.before ++ (framed tag (h.old ++ x) ++ h.after))) e ∙ h.again)
       (c h.fs h.before h.after h.old h.list)
 
-  pub held_fits : (room size : ℕ) (r : Result ℕ Full) (new : List M) → length (encodes (row_of tree new)) ≡ size →
-      ((fs : List Frame) (before : List ℕ) (tag : ℕ) (after old new : List ℕ) → ListAt there file path fs before tag after old → length new ≡ size →
+  pub held_fits : (room size : ℕ) (r : Result ℕ Full) → length run ≡ size →
+      ((fs : List Frame) (before after old new : List ℕ) → ListAt there file path fs before tag after old → length new ≡ size →
       r ≡ fitting room (length (plug fs (before ++ (framed tag (old ++ new) ++ after))))) →
-      r ≡ fitting room (length (file_bytes (changed new)))
-  held_fits room size r new e c =
-      c h.fs h.before tag h.after h.old (encodes (row_of tree new)) h.list e
-      ∙ ap (λ (x : List ℕ). fitting room (length x)) (h.again new)
+      r ≡ fitting room (length grown)
+  held_fits room size r e c =
+      c h.fs h.before h.after h.old run h.list e
+      ∙ ap (λ (x : List ℕ). fitting room (length x)) h.again

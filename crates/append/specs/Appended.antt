@@ -1,8 +1,8 @@
 -- Files with more elements at the end of one of their lists.
 use Rattle.std.specs.Prelude.{ℕ, zero, suc, List, [], ◌∷◌, ◌++◌, Some, Option}
-use Rattle.der.specs.Trees.{Tree}
+use Rattle.der.specs.Trees.{Tree, encodes}
 pub use Rattle.model.specs.Parts.{given}
-use Rattle.model.specs.Parts.{Attribute, Signer}
+use Rattle.model.specs.Parts.{Attribute, attribute_tree, row, row_of, Signer}
 use Rattle.model.specs.Files.{File}
 
 -- a list with new elements behind the old ones; then it is there
@@ -58,3 +58,20 @@ with_attributes n new f = record {
   revocations = f.revocations;
   signers = signers_with n new f.signers;
 }
+
+-- what is appended to a file: elements of one list, the attributes to signer number n
+pub data Addition : Type 0 where
+  certificates : List Tree → Addition
+  revocations : List Tree → Addition
+  attributes : ℕ → List Attribute → Addition
+
+abbrev pub with_more : Addition → File → File
+with_more (certificates new) f = with_certificates new f
+with_more (revocations new) f = with_revocations new f
+with_more (attributes n new) f = with_attributes n new f
+
+-- its bytes, one element behind another
+abbrev pub addition_bytes : Addition → List ℕ
+addition_bytes (certificates new) = encodes (row new)
+addition_bytes (revocations new) = encodes (row new)
+addition_bytes (attributes n new) = encodes (row_of attribute_tree new)

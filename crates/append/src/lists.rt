@@ -1,50 +1,44 @@
 //! A list inside a file, whose field may have to be made.
-ghost use Rattle.std.specs.Prelude.{◌≡◌, ℕ, ◌<◌, ◌≤◌, List, ◌++◌, length, take};
-ghost use Rattle.std.specs.List.{flat_map};
+ghost use Rattle.std.specs.Prelude.{◌≡◌, ℕ, List, ◌++◌, length};
+ghost use Rattle.areas.specs.Pieces.{joined};
 ghost use Rattle.der.specs.Trees.{framed};
 ghost use Rattle.grow.specs.Frames.{Frame, plug};
-ghost use Rattle.grow.specs.Changes.{Changed, fitting};
-ghost use Rattle.append.specs.Listed.{ListAt};
+ghost use Rattle.grow.specs.Changes.{Changed, SameBuffer, fitting, file_in};
+ghost use Rattle.append.specs.Listed.{ListAt, offsets};
 
-use grow::{Full, append, insert_field, measure_append, measure_field};
+use crate::place::Place;
+use grow::{Full, GrowingFile, measure_append, measure_field};
 
-/// Puts the run behind what stands in the list at the first offset of `path`; where its field is not there, it is made there.
-pub(crate) fn append_list(
-    buffer: &mut [u8],
-    n: usize,
-    path: &[usize],
-    there: bool,
-    tag: u8,
-    run: &[&[u8]],
-) -> Result<usize, Full>
-    requires within { (n ≤ length buffer.old) × (0 < length path.now) }
-    requires list { (fs : List Frame) × (before : List ℕ) × (after : List ℕ) × (old : List ℕ) × ListAt there (take n buffer.old) path.now fs before tag after old }
-    ensures { (fs : List Frame) (before after old : List ℕ) → ListAt there (take n buffer.old) path.now fs before tag after old
-        → Changed buffer.old buffer.new result (plug fs (before ++ (framed tag (old ++ flat_map (λ p. p.now) run.now) ++ after))) }
-{
-    if there {
-        append(buffer, n, path, run)
-    } else {
-        insert_field(buffer, n, &path[1..], path[0], tag, run)
+impl Place {
+    /// Puts the run behind what stands in the list; where its field is not there, it is made there.
+    pub(crate) fn append(&self, file: &mut GrowingFile, run: &[&[u8]]) -> Result<usize, Full>
+        requires list { (fs : List Frame) × (before : List ℕ) × (after : List ℕ) × (old : List ℕ)
+            × ListAt self.now.there (file_in file.old) (offsets self.now.path) fs before self.now.tag after old }
+        ensures same_buffer { SameBuffer file.old file.new }
+        ensures changed { (fs : List Frame) (before after old : List ℕ)
+            → ListAt self.now.there (file_in file.old) (offsets self.now.path) fs before self.now.tag after old
+            → Changed file.old file.new result (plug fs (before ++ (framed self.now.tag (old ++ joined run.now) ++ after))) }
+    {
+        match self.path.as_slice() {
+            path if self.there => file.append(path, run),
+            [at, around @ ..] => file.insert_field(around, *at, self.tag, run),
+            [] => unreachable(),
+        }
     }
-}
 
-/// The length of the file once `more` bytes stand behind those of the list. Refuses what `append_list` would refuse.
-pub(crate) fn measure_list(
-    buffer: &[u8],
-    n: usize,
-    path: &[usize],
-    there: bool,
-    more: usize,
-) -> Result<usize, Full>
-    requires within { (n ≤ length buffer.now) × (0 < length path.now) }
-    requires list { (fs : List Frame) × (before : List ℕ) × (tag : ℕ) × (after : List ℕ) × (old : List ℕ) × ListAt there (take n buffer.now) path.now fs before tag after old }
-    ensures { (fs : List Frame) (before : List ℕ) (tag : ℕ) (after old new : List ℕ) → ListAt there (take n buffer.now) path.now fs before tag after old
-        → length new ≡ more → result ≡ fitting (length buffer.now) (length (plug fs (before ++ (framed tag (old ++ new) ++ after)))) }
-{
-    if there {
-        measure_append(buffer, n, path, more)
-    } else {
-        measure_field(buffer, n, &path[1..], more)
+    /// The length of the file, in a buffer of `room` bytes, once `more` bytes stand behind those of the list.
+    /// Refuses what `append` would refuse.
+    pub(crate) fn measure(&self, file: &[u8], room: usize, more: usize) -> Result<usize, Full>
+        requires list { (fs : List Frame) × (before : List ℕ) × (after : List ℕ) × (old : List ℕ)
+            × ListAt self.now.there file.now (offsets self.now.path) fs before self.now.tag after old }
+        ensures { (fs : List Frame) (before after old new : List ℕ)
+            → ListAt self.now.there file.now (offsets self.now.path) fs before self.now.tag after old → length new ≡ more
+            → result ≡ fitting room (length (plug fs (before ++ (framed self.now.tag (old ++ new) ++ after)))) }
+    {
+        match self.path.as_slice() {
+            path if self.there => measure_append(file, room, path, more),
+            [_, around @ ..] => measure_field(file, room, around, more),
+            [] => unreachable(),
+        }
     }
 }

@@ -1,12 +1,27 @@
 //! Where the elements around a list begin, and the list itself, told by the record of a file.
-ghost use Rattle.std.specs.Prelude.{◌≡◌};
+ghost use Rattle.std.specs.Prelude.{◌≡◌, ◌<◌, length};
 ghost use Rattle.cms.specs.Places.{message_at};
 ghost use Rattle.fields.specs.Reads.{behind, entries_stop};
 ghost use Rattle.model.specs.Files.{File, file_tree};
-ghost use Rattle.append.specs.Listed.{outer_at, certificates_path_of, revocations_path_of, attributes_path_of};
+ghost use Rattle.append.specs.Listed.{outer_at, offsets, IsPlace};
 
-use cms::{Message, Signer};
+use crate::list::GrowingList;
+use crate::place::{Path, Place};
+use cms::Message;
 use der::header_size;
+
+impl Path {
+    /// The offsets.
+    pub(crate) fn as_slice(&self) -> &[usize]
+        ensures some { 0 < length result.now }
+        ensures offsets { result.now ≡ offsets self.now }
+    {
+        match self {
+            Path::OfMessage(offsets) => offsets,
+            Path::OfSigner(offsets) => offsets,
+        }
+    }
+}
 
 /// Where the field begins that holds the signed data alone: one header before it.
 fn outer_start(message: &Message) -> usize
@@ -27,43 +42,35 @@ fn revocations_start(message: &Message) -> usize
     }
 }
 
-/// The path of the certificates: their field behind the content info, the signed data, the field around it, and the file.
-pub(crate) fn certificates_path(message: &Message) -> [usize; 4]
+/// The place of a list of the file that the record tells of.
+pub(crate) fn place_of(list: GrowingList, message: &Message) -> Place
     requires { (f : File) × (message.now ≡ message_at 0 (file_tree f)) }
-    ensures { (f : File) → message.now ≡ message_at 0 (file_tree f) → result ≡ certificates_path_of message.now f }
+    ensures { (f : File) → message.now ≡ message_at 0 (file_tree f) → IsPlace list.entry message.now f result }
 {
-    [
-        message.info.whole.end,
-        message.whole.start,
-        outer_start(message),
-        0,
-    ]
-}
-
-/// The path of the revocation entries.
-pub(crate) fn revocations_path(message: &Message) -> [usize; 4]
-    requires { (f : File) × (message.now ≡ message_at 0 (file_tree f)) }
-    ensures { (f : File) → message.now ≡ message_at 0 (file_tree f) → result ≡ revocations_path_of message.now f }
-{
-    [
-        revocations_start(message),
-        message.whole.start,
-        outer_start(message),
-        0,
-    ]
-}
-
-/// The path of a signer's unsigned attributes: their field behind the signature, the signer, the field of the signers, and on.
-pub(crate) fn attributes_path(message: &Message, signer: &Signer) -> [usize; 6]
-    requires { (f : File) × (message.now ≡ message_at 0 (file_tree f)) }
-    ensures { (f : File) → message.now ≡ message_at 0 (file_tree f) → result ≡ attributes_path_of message.now signer.now f }
-{
-    [
-        signer.signature.end,
-        signer.whole.start,
-        message.signers.field.start,
-        message.whole.start,
-        outer_start(message),
-        0,
-    ]
+    let whole = message.whole.start;
+    let outer = outer_start(message);
+    match list {
+        GrowingList::Certificates => Place {
+            path: Path::OfMessage([message.info.whole.end, whole, outer, 0]),
+            there: message.certificates.is_some(),
+            tag: 0xa0,
+        },
+        GrowingList::Revocations => Place {
+            path: Path::OfMessage([revocations_start(message), whole, outer, 0]),
+            there: message.revocations.is_some(),
+            tag: 0xa1,
+        },
+        GrowingList::Attributes(signer) => Place {
+            path: Path::OfSigner([
+                signer.signature.end,
+                signer.whole.start,
+                message.signers.field.start,
+                whole,
+                outer,
+                0,
+            ]),
+            there: signer.unsigned.is_some(),
+            tag: 0xa1,
+        },
+    }
 }

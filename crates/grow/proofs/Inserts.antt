@@ -3,14 +3,17 @@ use Rattle.std.proofs.Common.{◌≡◌, ℕ, ◌+◌, ◌-◌, ◌<◌, ◌≤�
 use Rattle.std.proofs.lemmas.List.{append_assoc, append-nil, take_at, drop_at, take-take, length-append, length-take-le}
 use Rattle.der.specs.declared.header.Header.{Header}
 use Rattle.der.specs.Head.{header_of}
+use Rattle.areas.specs.Overlays.{overlay}
+use Rattle.areas.proofs.Overlays.{overlay_front}
 use Rattle.der.specs.Headers.{header_size_of}
-use Rattle.der.specs.Trees.{framed}
+use Rattle.der.specs.Trees.{framed, header_bytes}
+use Rattle.grow.specs.declared.file.GrowingFile.{GrowingFile}
 use Rattle.grow.specs.declared.full.Full.{Full}
 use Rattle.grow.specs.declared.full.Full.TheVariants.{TooLong}
 use Rattle.grow.specs.Frames.{Frame, plug, around, reach, start, left, right}
 use Rattle.grow.specs.Splices.{Spliced}
-use Rattle.grow.specs.Changes.{Stale, Encloses, Spot, Wrapped, Changed, short, fitting}
-use Rattle.grow.proofs.Plugs.{length_framed, length_plug, length_left, plug_stale, reach_adds, reach_is}
+use Rattle.grow.specs.Changes.{Stale, Encloses, Spot, Wrapped, Fits, Changed, short, fitting, file_in}
+use Rattle.grow.proofs.Plugs.{length_plug, length_left, plug_stale, reach_adds, reach_is}
 use Rattle.grow.proofs.Turns.{Turn}
 use Rattle.grow.proofs.Sizes.{same_header, total_most}
 use Rattle.grow.proofs.Rewraps.{further}
@@ -27,10 +30,9 @@ pub length_appended : (fs : List Frame) (body new : List ℕ) (more : ℕ) → l
 length_appended fs body new more e = length_plug fs (body ++ new) ∙ ap (reach fs) (length-append body new ∙ ap (λ (x : ℕ). length body + x) e)
 
 -- it is longer than the file by the new bytes, at least
-pub appended_least : (was path : List ℕ) (n : ℕ) (fs : List Frame) (body new : List ℕ) → n ≤ length was → Encloses (take n was) path fs body →
-    n + length new ≤ length (plug fs (body ++ new))
-appended_least was path n fs body new w e =
-    omega (arith, length-take-le n was w, length_appended fs body new (length new) refl, total_most (take n was) path (length new) fs body e)
+pub new_adds : (file path : List ℕ) (fs : List Frame) (pre new post : List ℕ) → Encloses file path fs (pre ++ post) →
+    length file + length new ≤ length (plug fs (pre ++ (new ++ post)))
+new_adds file path fs pre new post e = omega (arith, length_new fs pre new post (length new) refl, total_most file path (length new) fs (pre ++ post) e)
 
 -- and as long as they are
 pub new_least : (fs : List Frame) (pre new post : List ℕ) → length new ≤ length (plug fs (pre ++ (new ++ post)))
@@ -67,88 +69,99 @@ at_end file path fs body at q e =
     }
 
 -- nothing changes where what is put in is too long
-pub refused_long : (old : List ℕ) (fs : List Frame) (pre new post joined : List ℕ) (r : Result ℕ Full) (d e : Full) → r ≡ Err d → d ≡ e → Err e ≡ short (length joined) →
-    length joined ≤ length new → Changed old old r (plug fs (pre ++ (new ++ post)))
-refused_long old fs pre new post joined r d e is same q l =
+pub refused_long : (g : GrowingFile) (fs : List Frame) (pre new post joined : List ℕ) (r : Result ℕ Full) (d e : Full) → r ≡ Err d → d ≡ e → Err e ≡ short (length joined) →
+    length joined ≤ length new → Changed g g r (plug fs (pre ++ (new ++ post)))
+refused_long g fs pre new post joined r d e is same q l =
     let over = short_not e (length joined) q in
     let file : List ℕ = plug fs (pre ++ (new ++ post)) in
     let long : 65535 < length file = omega (arith, over.1, new_least fs pre new post) in
-    let refusal : Changed old old (Err TooLong) file = record { answer = too_long (length old) (length file) long; buffer = refl } in
-    subst (λ (x : Result ℕ Full). Changed old old x file) (sym (is ∙ ap {B = Result ℕ Full} Err (same ∙ over.0))) refusal
-
--- what is known of a file that was measured
-pub record Measured (n more room : ℕ) (new file : List ℕ) : Type 0 where
-  pub size : length new ≡ more
-  pub least : n + more ≤ length file
-  pub short : length file ≤ 65535
-  pub fits : length file ≤ room
-
-pub measured_append : (was path joined : List ℕ) (n size r : ℕ) (fs : List Frame) (body : List ℕ) → n ≤ length was → Encloses (take n was) path fs body → Ok size ≡ short (length joined) →
-    (length joined ≡ size → Ok r ≡ fitting (length was) (length (plug fs (body ++ joined)))) → Measured n size (length was) joined (plug fs (body ++ (joined ++ [])))
-measured_append was path joined n size r fs body w e q f =
-    let s = short_is size (length joined) q in
-    let m = fitting_is (length was) r (length (plug fs (body ++ joined))) (f (sym s.0)) in
-    let l = ap (λ (x : List ℕ). length (plug fs (body ++ x))) (append-nil joined) in
-    record {
-      size = sym s.0;
-      least = omega (arith, s.0, l, appended_least was path n fs body joined w e);
-      short = omega (arith, l, m.1);
-      fits = omega (arith, l, m.2);
-    }
-
-pub measured_field : (was path joined : List ℕ) (tag n size head r : ℕ) (fs : List Frame) (pre post : List ℕ) → n ≤ length was → Encloses (take n was) path fs (pre ++ post) →
-    Ok size ≡ short (length joined) → (length joined ≡ size → Ok r ≡ fitting (length was) (length (plug fs (pre ++ (framed tag joined ++ post))))) → head ≡ header_size_of size →
-    Measured n (head + size) (length was) (framed tag joined) (plug fs (pre ++ (framed tag joined ++ post)))
-measured_field was path joined tag n size head r fs pre post w e q f h =
-    let s = short_is size (length joined) q in
-    let m = fitting_is (length was) r (length (plug fs (pre ++ (framed tag joined ++ post)))) (f (sym s.0)) in
-    let k : length (framed tag joined) ≡ head + size = omega (arith, length_framed tag joined, s.0, ap (λ (x : ℕ). header_size_of x) s.0, h) in
-    record {
-      size = k;
-      least = omega (arith, length-take-le n was w, length_new fs pre (framed tag joined) post (head + size) k, total_most (take n was) path (head + size) fs (pre ++ post) e);
-      short = m.1;
-      fits = m.2;
-    }
+    let refusal : Changed g g (Err TooLong) file = record { answer = too_long (length g.buffer.now) (length file) long; buffer = refl; end = refl } in
+    subst (λ (x : Result ℕ Full). Changed g g x file) (sym (is ∙ ap {B = Result ℕ Full} Err (same ∙ over.0))) refusal
 
 -- a file into which new bytes are put, at a place between two elements
-module _ (was path : List ℕ) (n at : ℕ) (new : List ℕ) (fs : List Frame) (pre post : List ℕ) (w : n ≤ length was) (s : Spot (take n was) path at fs pre post) where
+module _ (g : GrowingFile) (path : List ℕ) (at : ℕ) (new : List ℕ) (fs : List Frame) (pre post : List ℕ) (s : Spot (file_in g) path at fs pre post) where
   abbrev pub Grown : List ℕ
   Grown = plug fs (pre ++ (new ++ post))
 
-  pub at_within : at ≤ n
+  abbrev size : length (file_in g) ≡ g.end
+  size = length-take-le g.end g.buffer.now g.within
+
+  pub at_within : at ≤ g.end
   at_within =
-      omega (arith, length-take-le n was w, s.cut, ap length s.encloses.whole, length_plug fs (pre ++ post), reach_is fs (length (pre ++ post)), length-append pre post)
+      omega (arith, size, s.cut, ap length s.encloses.whole, length_plug fs (pre ++ post), reach_is fs (length (pre ++ post)), length-append pre post)
 
-  module _ (mid : List ℕ) (p : Spliced was mid n at 0 new) where
-    -- the headers around it are stale
-    pub grown_stale : (more : ℕ) → length new ≡ more → Stale (take (n + more) mid) path more fs (length (pre ++ post)) (pre ++ (new ++ post))
-    grown_stale more q =
-        let L : List ℕ = left fs (length (pre ++ post)) in
-        let file : take n was ≡ (L ++ pre) ++ (post ++ right fs) = s.encloses.whole ∙ plug_stale fs (pre ++ post) ∙ simp append_assoc in
-        let len : length (L ++ pre) ≡ at = omega (arith, length-append L pre, length_left fs (length (pre ++ post)), s.cut) in
-        let a : take at was ≡ L ++ pre = sym (take-take at n was at_within) ∙ ap (take at) file ∙ take_at (L ++ pre) (post ++ right fs) at len in
-        let d : drop (at + 0) (take n was) ≡ post ++ right fs = ap (drop (at + 0)) file ∙ drop_at (L ++ pre) (post ++ right fs) (at + 0) (omega (arith, len)) in
-        let k : n + more ≡ n + (length new - 0) = omega arith in
-        record {
-          whole =
-              ap (λ (x : ℕ). take x mid) k ∙ p.file ∙ ap (λ (x : List ℕ). x ++ (new ++ drop (at + 0) (take n was))) a
-              ∙ ap (λ (x : List ℕ). (L ++ pre) ++ (new ++ x)) d ∙ simp append_assoc;
-          here = s.encloses.here;
-          low = s.encloses.low;
-          grown = length_body pre new post ∙ ap (λ (x : ℕ). length (pre ++ post) + x) q;
-        }
+  pub grown_least : g.end + length new ≤ length Grown
+  grown_least = omega (arith, size, new_adds (file_in g) path fs pre new post s.encloses)
 
-    -- and once they are written anew, the file is the grown one
-    pub grown_changed : (is : List ℕ) (r more room : ℕ) → length mid ≡ length was → Measured n more room new Grown → Wrapped mid is r Grown → Changed was is (Ok r) Grown
-    grown_changed is r more room l m q =
-        let k : n + length new ≡ n + (length new - 0) = omega arith in
-        let d : drop (n + length new) mid ≡ drop (n + length new) was =
-        ap (λ (x : ℕ). drop x mid) k ∙ p.behind ∙ ap (λ (x : ℕ). drop x was) (sym k) in
-        record {
-          answer = fits (length was) r (length Grown) q.long m.short (omega (arith, q.fits, q.long));
-          buffer = q.holds ∙ ap (λ (x : List ℕ). Grown ++ x) (further (n + length new) r mid was (omega (arith, q.long, m.least, m.size)) d);
-        }
+  -- the headers around it are stale
+  pub grown_stale : (mid : List ℕ) (end more : ℕ) → Spliced g.buffer.now mid g.end at 0 new → more ≡ length new → end ≡ g.end + more →
+      Stale (take end mid) path more fs (length (pre ++ post)) (pre ++ (new ++ post))
+  grown_stale mid end more p m e =
+      let L : List ℕ = left fs (length (pre ++ post)) in
+      let file : file_in g ≡ (L ++ pre) ++ (post ++ right fs) = s.encloses.whole ∙ plug_stale fs (pre ++ post) ∙ simp append_assoc in
+      let len : length (L ++ pre) ≡ at = omega (arith, length-append L pre, length_left fs (length (pre ++ post)), s.cut) in
+      let a : take at g.buffer.now ≡ L ++ pre = sym (take-take at g.end g.buffer.now at_within) ∙ ap (take at) file ∙ take_at (L ++ pre) (post ++ right fs) at len in
+      let d : drop (at + 0) (file_in g) ≡ post ++ right fs = ap (drop (at + 0)) file ∙ drop_at (L ++ pre) (post ++ right fs) (at + 0) (omega (arith, len)) in
+      let k : end ≡ g.end + (length new - 0) = omega arith in
+      record {
+        whole =
+            ap (λ (x : ℕ). take x mid) k ∙ p.file ∙ ap (λ (x : List ℕ). x ++ (new ++ drop (at + 0) (file_in g))) a
+            ∙ ap (λ (x : List ℕ). (L ++ pre) ++ (new ++ x)) d ∙ simp append_assoc;
+        here = s.encloses.here;
+        low = s.encloses.low;
+        grown = length_body pre new post ∙ ap (λ (x : ℕ). length (pre ++ post) + x) (sym m);
+      }
+
+  -- and once they are written anew, the file is the grown one
+  pub grown_wrapped : {mid is : GrowingFile} → Wrapped mid is Grown → Spliced g.buffer.now mid.buffer.now g.end at 0 new → Wrapped g is Grown
+  grown_wrapped {mid} {is} q p =
+      let k : g.end + length new ≡ g.end + (length new - 0) = omega arith in
+      let d : drop (g.end + length new) mid.buffer.now ≡ drop (g.end + length new) g.buffer.now =
+      ap (λ (x : ℕ). drop x mid.buffer.now) k ∙ p.behind ∙ ap (λ (x : ℕ). drop x g.buffer.now) (sym k) in
+      record {
+        long = q.long;
+        holds = q.holds ∙ ap (λ (x : List ℕ). Grown ++ x) (further (g.end + length new) is.end mid.buffer.now g.buffer.now (omega (arith, q.long, grown_least)) d);
+      }
+
+-- a file that has grown, told as an answer
+pub wrapped_changed : (old new : GrowingFile) (file : List ℕ) → Fits old file → Wrapped old new file → Changed old new (Ok new.end) file
+wrapped_changed old new file f w = record {
+  answer = fits (length old.buffer.now) new.end (length file) w.long f.short f.room;
+  buffer = w.holds;
+  end = refl;
+}
+
+module _ (g : GrowingFile) (path bytes joined : List ℕ) (room size r : ℕ) (fs : List Frame) (b : bytes ≡ file_in g) (m : room ≡ length g.buffer.now) (q : Ok size ≡ short (length joined)) where
+  -- what was measured fits
+  measured : (new : List ℕ) → Ok r ≡ fitting room (length new) → Fits g new
+  measured new f =
+      let k = fitting_is room r (length new) f in
+      record { short = k.1; room = omega (arith, k.2, m) }
+
+  pub append_fits : (body : List ℕ) → Encloses (file_in g) path fs body →
+      ((fs : List Frame) (body new : List ℕ) → Encloses bytes path fs body → length new ≡ size → Ok r ≡ fitting room (length (plug fs (body ++ new)))) → Fits g (plug fs (body ++ (joined ++ [])))
+  append_fits body e f =
+      subst (λ (x : List ℕ). Fits g (plug fs (body ++ x))) (sym (append-nil joined))
+      (measured (plug fs (body ++ joined)) (f fs body joined (subst (λ (x : List ℕ). Encloses x path fs body) (sym b) e) (sym (short_is size (length joined) q).0)))
+
+  pub field_fits : (pre post : List ℕ) (tag : ℕ) → Encloses (file_in g) path fs (pre ++ post) →
+      ((fs : List Frame) (pre post new : List ℕ) (tag : ℕ) → Encloses bytes path fs (pre ++ post) → length new ≡ size → Ok r ≡ fitting room (length (plug fs (pre ++ (framed tag new ++ post))))) →
+      Fits g (plug fs (pre ++ (framed tag joined ++ post)))
+  field_fits pre post tag e f =
+      measured (plug fs (pre ++ (framed tag joined ++ post)))
+      (f fs pre post joined tag (subst (λ (x : List ℕ). Encloses x path fs (pre ++ post)) (sym b) e) (sym (short_is size (length joined) q).0))
+
+-- a file is short that may still grow
+pub still_short_append : (file path joined : List ℕ) (fs : List Frame) (body : List ℕ) → Encloses file path fs body → length (plug fs (body ++ (joined ++ []))) ≤ 65535 → length file ≤ 65535
+still_short_append file path joined fs body e l =
+    omega (arith, l, length_appended fs body (joined ++ []) (length (joined ++ [])) refl, total_most file path (length (joined ++ [])) fs body e)
+
+-- a header that was written first, and the contents behind it
+pub field_written : (tag size r : ℕ) (area was joined : List ℕ) → Ok size ≡ short (length joined) → r ≡ 0 + header_size_of size → area ≡ overlay 0 (header_bytes tag size) was → take r area ++ joined ≡ framed tag joined
+field_written tag size r area was joined q e a =
+    let head : take r area ≡ header_bytes tag size = ap (λ (x : ℕ). take x area) e ∙ ap (take (0 + header_size_of size)) a ∙ overlay_front 0 (header_bytes tag size) was (omega arith) in
+    ap (λ (x : List ℕ). x ++ joined) head ∙ ap (λ (x : ℕ). header_bytes tag x ++ joined) (short_is size (length joined) q).0
 
 -- appending is putting in before nothing
-pub changed_end : (was is : List ℕ) (r : Result ℕ Full) (fs : List Frame) (body new : List ℕ) → Changed was is r (plug fs (body ++ (new ++ []))) → Changed was is r (plug fs (body ++ new))
-changed_end was is r fs body new c = subst (λ (x : List ℕ). Changed was is r (plug fs (body ++ x))) (append-nil new) c
+pub changed_end : {old new : GrowingFile} {r : Result ℕ Full} (fs : List Frame) (body bytes : List ℕ) → Changed old new r (plug fs (body ++ (bytes ++ []))) → Changed old new r (plug fs (body ++ bytes))
+changed_end {old} {new} {r} fs body bytes c = subst (λ (x : List ℕ). Changed old new r (plug fs (body ++ x))) (append-nil bytes) c

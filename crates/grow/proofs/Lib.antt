@@ -1,4 +1,3 @@
-pub mod Joins
 pub mod Overlays
 pub mod Plugs
 pub mod Turns

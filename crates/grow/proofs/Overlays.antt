@@ -1,47 +1,11 @@
 -- What a buffer holds once a gap is opened and filled.
-use Rattle.std.proofs.Common.{◌≡◌, ℕ, ◌+◌, ◌-◌, ◌≤◌, List, [], ◌++◌, length, take, drop, sym, refl, ap, ◌∙◌, subst, add-zero, arith}
+use Rattle.std.proofs.Common.{◌≡◌, ℕ, ◌+◌, ◌-◌, ◌≤◌, List, ◌++◌, length, take, drop, sym, refl, ap, ◌∙◌, subst, arith}
 use lib.Seq.{paste}
-use borrow.Rule.Slice.PartMut.{put_mid}
 use Rattle.std.proofs.lemmas.Slice.{between_is}
-use Rattle.std.proofs.lemmas.List.{append_assoc, take-append-le, take-append-drop, take-take, drop-drop, drop_at, take_at, length-take-le, length-append, length-drop}
-use Rattle.der.specs.Headers.{header_size_of}
-use Rattle.der.specs.Trees.{framed, header_bytes}
-use Rattle.grow.specs.Splices.{overlay, Parted, Spliced}
-
--- a part that is written is written over
-pub written_over : (at k : ℕ) (buffer new part : List ℕ) → k ≡ length new → part ≡ new → put_mid at k buffer part ≡ overlay at new buffer
-written_over at k buffer new part e q =
-    ap (λ (x : List ℕ). take at buffer ++ (x ++ drop k (drop at buffer))) q
-    ∙ ap (λ (x : List ℕ). take at buffer ++ (new ++ x)) (drop-drop k at buffer ∙ ap (λ (x : ℕ). drop (at + x) buffer) e)
-
--- nothing is written over nothing
-pub overlay_none : (at : ℕ) (buffer : List ℕ) → buffer ≡ overlay at [] buffer
-overlay_none at buffer = sym (take-append-drop at buffer) ∙ ap (λ (x : ℕ). take at buffer ++ drop x buffer) (sym (add-zero at))
-
--- bytes written behind others are written with them
-pub overlay_more : (at : ℕ) (a b buffer : List ℕ) → at ≤ length buffer → overlay (at + length a) b (overlay at a buffer) ≡ overlay at (a ++ b) buffer
-overlay_more at a b buffer l =
-    let A : List ℕ = take at buffer in
-    let D : List ℕ = drop (at + length a) buffer in
-    let whole : overlay at a buffer ≡ (A ++ a) ++ D = sym (append_assoc A a D) in
-    let len : length (A ++ a) ≡ at + length a = omega (arith, length-append A a, length-take-le at buffer l) in
-    let front : take (at + length a) (overlay at a buffer) ≡ A ++ a = ap (take (at + length a)) whole ∙ take_at (A ++ a) D (at + length a) len in
-    let rest : drop (at + length a) (overlay at a buffer) ≡ D = ap (drop (at + length a)) whole ∙ drop_at (A ++ a) D (at + length a) len in
-    let sum : at + length a + length b ≡ at + length (a ++ b) = omega (arith, length-append a b) in
-    let back : drop (at + length a + length b) (overlay at a buffer) ≡ drop (at + length (a ++ b)) buffer =
-    sym (drop-drop (length b) (at + length a) (overlay at a buffer)) ∙ ap (drop (length b)) rest ∙ drop-drop (length b) (at + length a) buffer ∙ ap (λ (x : ℕ). drop x buffer) sum in
-    ap (λ (x : List ℕ). x ++ (b ++ drop (at + length a + length b) (overlay at a buffer))) front
-    ∙ ap (λ (x : List ℕ). (A ++ a) ++ (b ++ x)) back
-    ∙ append_assoc A a (b ++ drop (at + length (a ++ b)) buffer)
-    ∙ ap (λ (x : List ℕ). A ++ x) (sym (append_assoc a b (drop (at + length (a ++ b)) buffer)))
-
--- contents written behind their header are written as an element
-pub overlay_framed : (at head tag : ℕ) (body buffer : List ℕ) (size : ℕ) → at ≤ length buffer → length body ≡ size → head ≡ header_size_of size →
-    overlay (at + head) body (overlay at (header_bytes tag size) buffer) ≡ overlay at (framed tag body) buffer
-overlay_framed at head tag body buffer size l e h =
-    ap (λ (x : ℕ). overlay (at + x) body (overlay at (header_bytes tag size) buffer)) h
-    ∙ overlay_more at (header_bytes tag size) body buffer l
-    ∙ ap (λ (x : ℕ). overlay at (header_bytes tag x ++ body) buffer) (sym e)
+use Rattle.std.proofs.lemmas.List.{append_assoc, take-append-le, take-append-drop, take-take, drop_at, take_at, length-take-le, length-append, length-drop}
+use Rattle.areas.specs.Overlays.{overlay}
+use Rattle.areas.proofs.Overlays.{overlay_more}
+use Rattle.grow.specs.Splices.{Parted, Spliced}
 
 -- a gap of no bytes
 pub parted_none : (buffer : List ℕ) (n at size : ℕ) → at ≤ n → n ≤ length buffer → size ≡ 0 → Parted buffer buffer n at size
@@ -108,3 +72,10 @@ filled_gap was mid is n at size new l m e p q =
     let there : size ≡ length new - 0 = omega arith in
     filled was mid is n at 0 new (omega arith) (omega arith) m
     (subst (λ (x : ℕ). Parted was mid n x (length new - 0)) here (subst (λ (x : ℕ). Parted was mid n at x) there p)) q
+
+-- a gap that is filled by one part and another behind it
+pub filled_both : (was gap mid is : List ℕ) (n at behind size : ℕ) (a b : List ℕ) → at ≤ n → n ≤ length was → n ≤ length gap → size ≡ length (a ++ b) →
+    Parted was gap n at size → behind ≡ at + length a → mid ≡ overlay at a gap → is ≡ overlay behind b mid → Spliced was is n at 0 (a ++ b)
+filled_both was gap mid is n at behind size a b l m k e p h p1 p2 =
+    filled_gap was gap is n at size (a ++ b) l m (sym e) p
+    (p2 ∙ ap (overlay behind b) p1 ∙ ap (λ (x : ℕ). overlay x b (overlay at a gap)) h ∙ overlay_more at a b gap (omega arith))

@@ -1,5 +1,6 @@
 -- What growing a file does.
-use Rattle.std.specs.Prelude.{◌≡◌, ℕ, ◌+◌, ◌≤◌, cond, List, ◌++◌, length, drop, Ok, Err, Result, nat_le}
+use Rattle.std.specs.Prelude.{◌≡◌, ℕ, ◌+◌, ◌≤◌, cond, List, ◌++◌, length, take, drop, Ok, Err, Result, nat_le}
+use Rattle.grow.specs.declared.file.GrowingFile.{GrowingFile}
 use Rattle.grow.specs.declared.full.Full.{Full}
 use Rattle.grow.specs.declared.full.Full.TheVariants.{TooLong, NoRoom}
 use Rattle.grow.specs.Frames.{Frame, plug, places, start, OneByteTags, stale}
@@ -22,11 +23,24 @@ pub record Stale (file path : List ℕ) (more : ℕ) (fs : List Frame) (n : ℕ)
   pub low : OneByteTags fs
   pub grown : length body ≡ n + more
 
--- the buffer holds the file, and behind it what it held
-pub record Wrapped (old new : List ℕ) (n : ℕ) (file : List ℕ) : Type 0 where
-  pub long : n ≡ length file
-  pub fits : n ≤ length old
-  pub holds : new ≡ file ++ drop n old
+-- the bytes of a growing file
+abbrev pub file_in : GrowingFile → List ℕ
+file_in g = take g.end g.buffer.now
+
+-- a growing file before and after a change: it lies in the same buffer
+pub record SameBuffer (old new : GrowingFile) : Type 0 where
+  pub name : new.buffer.ghost_name ≡ old.buffer.ghost_name
+  pub room : length new.buffer.now ≡ length old.buffer.now
+
+-- there is room for a new file, and it may be as long
+pub record Fits (g : GrowingFile) (file : List ℕ) : Type 0 where
+  pub short : length file ≤ 65535
+  pub room : length file ≤ length g.buffer.now
+
+-- the buffer holds the new file, and behind it what it held
+pub record Wrapped (old new : GrowingFile) (file : List ℕ) : Type 0 where
+  pub long : new.end ≡ length file
+  pub holds : new.buffer.now ≡ file ++ drop new.end old.buffer.now
 
 -- a length that a file may have, or the refusal
 abbrev pub short : ℕ → Result ℕ Full
@@ -41,7 +55,13 @@ abbrev pub after : Result ℕ Full → List ℕ → List ℕ → List ℕ
 after (Ok n) file old = file ++ drop n old
 after (Err e) file old = old
 
+-- and where the file ends
+abbrev pub end_after : Result ℕ Full → ℕ → ℕ
+end_after (Ok n) old = n
+end_after (Err e) old = old
+
 -- the answer says whether the new file fits, and the buffer then holds it, and behind it what it held
-pub record Changed (old new : List ℕ) (r : Result ℕ Full) (file : List ℕ) : Type 0 where
-  pub answer : r ≡ fitting (length old) (length file)
-  pub buffer : new ≡ after r file old
+pub record Changed (old new : GrowingFile) (r : Result ℕ Full) (file : List ℕ) : Type 0 where
+  pub answer : r ≡ fitting (length old.buffer.now) (length file)
+  pub buffer : new.buffer.now ≡ after r file old.buffer.now
+  pub end : new.end ≡ end_after r old.end

@@ -1,10 +1,6 @@
 -- Bytes that are put into a buffer, over others or between them.
 use Rattle.std.specs.Prelude.{◌≡◌, ℕ, ◌+◌, ◌-◌, List, ◌++◌, length, take, drop}
 
--- the buffer with `new` over its bytes from `at` on
-abbrev pub overlay : ℕ → List ℕ → List ℕ → List ℕ
-overlay at new buffer = take at buffer ++ (new ++ drop (at + length new) buffer)
-
 -- the file, the first `n` bytes, parts at `at`: what stood from there on stands `size` bytes further right
 pub record Parted (was is : List ℕ) (n at size : ℕ) : Type 0 where
   pub front : take at is ≡ take at was

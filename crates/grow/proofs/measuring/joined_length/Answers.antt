@@ -1,6 +1,8 @@
 use Rattle.std.proofs.Common.{length, refl, ap, ◌∙◌, arith, take_all}
+use Rattle.std.proofs.lemmas.List.Folds.{length-flat_map-take}
+use Rattle.areas.specs.Pieces.{joined}
 use Rattle.grow.proofs.Fits.{short_over, short_within}
-use Rattle.grow.proofs.Joins.{bytes_of, front_length, next_most}
+use Rattle.areas.proofs.Joins.{no_piece, front_length}
 use Rattle.grow.proofs.measuring.joined_length.Goals as goal
 
 pub loop-piece-init : goal.loop-piece-init
@@ -14,10 +16,10 @@ loop-piece-preserved c =
 pub returns-then-piece-sum : goal.returns-then-piece-sum
 returns-then-piece-sum c =
     let inv = c.loop-piece.invariant in
-    short_over _ (omega (arith, inv.0, inv.1, c.if-piece-sum.true, next_most c.args.pieces.now c.loop-piece.piece-index c.loop-piece-test.true))
+    short_over _ (omega (arith, inv.0, inv.1, c.if-piece-sum.true, length-flat_map-take (λ p. p.now) c.args.pieces.now c.loop-piece.piece-index no_piece c.loop-piece-test.true))
 
 pub returns : goal.returns
 returns c =
     let inv = c.loop-piece.invariant in
-    let whole = ap (λ ps. length (bytes_of ps)) (take_all _ _ c.loop-piece-test.false) in
+    let whole = ap (λ ps. length (joined ps)) (take_all _ _ c.loop-piece-test.false) in
     short_within _ _ (inv.0 ∙ whole) (omega (arith, inv.0, inv.1, whole))
