@@ -6,10 +6,7 @@ ghost use Rattle.content.specs.Sources.{segmented_bytes, Made};
 use crate::segments::{count_bytes, read_segments};
 use der::Reader;
 use digest::refusal::Refusal;
-use digest::source::Source;
-
-/// The most bytes that a source has.
-const MOST: usize = 8_388_608;
+use digest::source::{MOST_BYTES, Source};
 
 /// Segments that are read as a source: the contents of the elements that the reader stands on, joined; the first
 /// 8,388,608 bytes of them, and no maker takes more.
@@ -23,7 +20,7 @@ impl<'a> Segmented<'a> {
     pub fn over(segments: Reader<'a>) -> Result<Segmented<'a>, Refusal>
         ensures { Made (joined_of segments.entry) result }
     {
-        if count_bytes(segments) > MOST {
+        if count_bytes(segments) > MOST_BYTES {
             return Err(Refusal::LongSource);
         }
         Ok(Segmented { segments })
@@ -36,11 +33,11 @@ impl<'a> Source for Segmented<'a> {
     ghost few = { few_segmented };
 
     fn len(&self) -> usize {
-        count_bytes(self.segments).min(MOST)
+        count_bytes(self.segments).min(MOST_BYTES)
     }
 
     fn read_at(&self, place: usize, block: &mut [u8]) -> usize {
-        let room = block.len().min(MOST.saturating_sub(place));
+        let room = block.len().min(MOST_BYTES.saturating_sub(place));
         read_segments(self.segments, place, &mut block[0..room])
     }
 }

@@ -4,6 +4,7 @@ ghost use Rattle.digest.specs.Read.{Read};
 ghost use Rattle.content.specs.Segments.{joined_of};
 
 use der::Reader;
+use digest::cutting::copy_part;
 
 /// How many bytes the contents of the elements have together.
 pub(crate) fn count_bytes(segments: Reader) -> usize
@@ -17,18 +18,6 @@ pub(crate) fn count_bytes(segments: Reader) -> usize
     count
 }
 
-/// The contents from `place` on go to the front of the block, as many as both allow. Answers how many.
-fn copy_from(contents: &[u8], place: usize, block: &mut [u8]) -> usize
-    ensures { Read contents.now place block.old block.new result }
-{
-    if place >= contents.len() {
-        return 0;
-    }
-    let count = block.len().min(contents.len() - place);
-    block[0..count].copy_from_slice(&contents[place..place + count]);
-    count
-}
-
 /// The joined contents from `place` on go to the front of the block, as many as both allow. Answers how many.
 pub(crate) fn read_segments(segments: Reader, place: usize, block: &mut [u8]) -> usize
     ensures { Read (joined_of segments.entry) place block.old block.new result }
@@ -36,12 +25,13 @@ pub(crate) fn read_segments(segments: Reader, place: usize, block: &mut [u8]) ->
     let mut reader = segments;
     let mut passed = 0;
     let mut filled = 0;
+    // The reader hands the segments out; the loop stops as soon as the block is full, which may be before any is read.
     while filled < block.len() {
         let Ok(segment) = reader.next() else {
             return filled;
         };
         let contents = segment.contents();
-        filled += copy_from(contents, place.saturating_sub(passed), &mut block[filled..]);
+        filled += copy_part(contents, place.saturating_sub(passed), &mut block[filled..]);
         passed += contents.len();
     }
     filled

@@ -46,7 +46,7 @@ loop-filled-preserved c =
         before ++ contents,
         length-append before contents ∙ ap (λ (n : ℕ). n + length contents) inv.3.1,
         inv.3.2 ∙ ap (λ (x : List ℕ). before ++ x) t.joined ∙ sym (append_assoc before contents _),
-        read_next before contents c.args.place c.saturating_sub.result c.args.block.now c.loop-filled.block c.copy_from-filled.new.block _ _ from inv.3.3 c.copy_from-filled.ensures,
+        read_next before contents c.args.place c.saturating_sub.result c.args.block.now c.loop-filled.block c.copy_part-filled.new.block _ _ from inv.3.3 c.copy_part-filled.ensures,
       ),
     )
 
