@@ -7,3 +7,4 @@ pub mod Puts
 pub mod Standing
 pub mod Entries
 pub mod Laws
+pub mod Handing

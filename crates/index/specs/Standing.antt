@@ -14,12 +14,12 @@ use Rattle.index.specs.declared.elements.Elements.{Elements}
 use Rattle.index.specs.declared.elements.ElementLists.{ElementLists}
 
 -- the elements are these trees, on some level
-pub record Stand (file : List ℕ) (elements : Elements) (ts : List Tree) : Type 0 where
+pub record Stand (elements : Elements) (ts : List Tree) : Type 0 where
   pub levels : ℕ
   pub valid : Valids (row ts) levels
-  pub bytes : part file elements.at elements.end ≡ encodes (row ts)
-  pub order : elements.at ≤ elements.end
-  pub inside : elements.end ≤ length file
+  pub bytes : part elements.reader.bytes.now elements.reader.at elements.reader.end ≡ encodes (row ts)
+  pub order : elements.reader.at ≤ elements.reader.end
+  pub inside : elements.reader.end ≤ length elements.reader.bytes.now
   pub count : elements.count ≡ length ts
 
 -- the elements of a list
@@ -29,8 +29,12 @@ elements_for lists Revocations = lists.revocations
 elements_for lists Attributes = lists.attributes
 
 -- list by list
-abbrev pub StandLists : List ℕ → ElementLists → (ListName → List Tree) → Type 0
-StandLists file lists trees = (list : ListName) → Stand file (elements_for lists list) (trees list)
+abbrev pub StandLists : ElementLists → (ListName → List Tree) → Type 0
+StandLists lists trees = (list : ListName) → Stand (elements_for lists list) (trees list)
+
+-- each list has at most as many elements as it may
+abbrev pub Few : ElementLists → Type 0
+Few lists = (lists.certificates.count ≤ 64) × ((lists.revocations.count ≤ 64) × (lists.attributes.count ≤ 64))
 
 -- their bytes, list by list
 abbrev pub encoded_by : (ListName → List Tree) → ListName → List (List ℕ)
@@ -42,18 +46,23 @@ trees_of f s Certificates = given f.certificates
 trees_of f s Revocations = given f.revocations
 trees_of f s Attributes = map attribute_tree (given s.unsigned)
 
--- the elements in a field; where it is not there, none
-abbrev pub elements_in : Option Entries → Elements
-elements_in None = record { at = 0; end = 0; count = 0 }
-elements_in (Some e) = record { at = e.field.body; end = e.field.end; count = e.count }
+-- so many elements, from one offset of the file to another
+pub record Lie (file : List ℕ) (from to many : ℕ) (elements : Elements) : Type 0 where
+  pub bytes : elements.reader.bytes.now ≡ file
+  pub at : elements.reader.at ≡ from
+  pub end : elements.reader.end ≡ to
+  pub count : elements.count ≡ many
+
+-- the elements in a field of the file; where it is not there, none
+abbrev pub IsIn : List ℕ → Option Entries → Elements → Type 0
+IsIn file None elements = Lie file 0 0 0 elements
+IsIn file (Some e) elements = Lie file e.field.body e.field.end e.count elements
 
 -- the entries of an index, where its record says that they lie
-abbrev pub entry_lists : IndexParts → ElementLists
-entry_lists parts = record {
-  certificates = elements_in (Some parts.certificates);
-  revocations = elements_in (Some parts.revocations);
-  attributes = elements_in (Some parts.attributes);
-}
+pub record AreEntries (file : List ℕ) (parts : IndexParts) (lists : ElementLists) : Type 0 where
+  pub certificates : IsIn file (Some parts.certificates) lists.certificates
+  pub revocations : IsIn file (Some parts.revocations) lists.revocations
+  pub attributes : IsIn file (Some parts.attributes) lists.attributes
 
 -- and the elements that they are
 abbrev pub entry_trees : Index → ListName → List Tree

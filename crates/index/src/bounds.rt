@@ -8,7 +8,6 @@ ghost use Rattle.index.specs.Limits.{first_too_many_entry_of, first_past_entry};
 ghost use Rattle.index.specs.Places.{index_at};
 
 use crate::located::IndexParts;
-use der::Reader;
 use fields::Entries;
 use limits::too_many;
 
@@ -19,25 +18,16 @@ const MOST_ENTRIES: usize = 64;
 fn find_in_list(file: &[u8], entries: Entries) -> Option<usize>
     ensures { result ≡ entries_past file.now (Some entries) }
 {
-    let inside = Reader {
-        bytes: file,
-        at: entries.field.body,
-        end: entries.field.end,
-    };
-    too_many(inside, MOST_ENTRIES)
+    too_many(entries.inside(file), MOST_ENTRIES)
 }
 
 /// The place of the first entry too many in the lists, in reading order.
 fn find_in_lists(file: &[u8], parts: &IndexParts) -> Option<usize>
     ensures { result ≡ first_past_entry file.now parts.now }
 {
-    if let Some(place) = find_in_list(file, parts.certificates) {
-        return Some(place);
-    }
-    if let Some(place) = find_in_list(file, parts.revocations) {
-        return Some(place);
-    }
-    find_in_list(file, parts.attributes)
+    find_in_list(file, parts.certificates)
+        .or_else(|| find_in_list(file, parts.revocations))
+        .or_else(|| find_in_list(file, parts.attributes))
 }
 
 /// The place of the first entry too many of an index, in reading order; none where every list has at most 64.

@@ -1,17 +1,17 @@
 //! Elements of a file's lists, where they stand in its bytes.
+use der::Reader;
 
-/// Elements back to back, from one offset to another, and how many there are.
+/// Elements back to back, from the reader's offset to its end, and how many there are.
 #[derive(Clone, Copy)]
-pub struct Elements {
-    pub at: usize,
-    pub end: usize,
+pub struct Elements<'a> {
+    pub reader: Reader<'a>,
     pub count: usize,
 }
 
 /// The elements of the three lists.
 #[derive(Clone, Copy)]
-pub struct ElementLists {
-    pub certificates: Elements,
-    pub revocations: Elements,
-    pub attributes: Elements,
+pub struct ElementLists<'a> {
+    pub certificates: Elements<'a>,
+    pub revocations: Elements<'a>,
+    pub attributes: Elements<'a>,
 }

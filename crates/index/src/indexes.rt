@@ -10,7 +10,7 @@ ghost use Rattle.index.specs.Records.{algorithm_stop, has_algorithm_of, maybe_al
 use crate::algorithms::read_algorithm;
 use crate::located::{AlgorithmParts, IndexParts};
 use der::{Reader, Span};
-use fields::{Entries, Octets, count, enter, expect, finish};
+use fields::{Octets, enter, expect, finish, read_list};
 
 /// Whether the next element stands for an algorithm: it is tagged 30, and its first element 06.
 fn has_algorithm(reader: &Reader) -> bool
@@ -21,10 +21,7 @@ fn has_algorithm(reader: &Reader) -> bool
         return false;
     };
     let mut inside = enter(reader, first);
-    match expect(&mut inside, 0x06) {
-        Ok(_) => true,
-        Err(_) => false,
-    }
+    expect(&mut inside, 0x06).is_ok()
 }
 
 /// The algorithm, if one comes next.
@@ -34,17 +31,7 @@ fn read_maybe_algorithm(reader: &mut Reader) -> Result<Option<AlgorithmParts>, u
     if !has_algorithm(reader) {
         return Ok(None);
     }
-    let algorithm = read_algorithm(reader)?;
-    Ok(Some(algorithm))
-}
-
-/// A list of entries: any number.
-fn read_list(reader: &mut Reader) -> Result<Entries, usize>
-    ensures { Reads list_at entries_stop reader.old reader.new result }
-{
-    let field = expect(reader, 0x30)?;
-    let count = count::<Octets>(enter(reader, field))?;
-    Ok(Entries { field, count })
+    Ok(Some(read_algorithm(reader)?))
 }
 
 /// The fields of an index.
@@ -53,9 +40,9 @@ fn read_fields(reader: &Reader, whole: Span) -> Result<IndexParts, usize>
 {
     let mut inside = enter(reader, whole);
     let algorithm = read_maybe_algorithm(&mut inside)?;
-    let certificates = read_list(&mut inside)?;
-    let revocations = read_list(&mut inside)?;
-    let attributes = read_list(&mut inside)?;
+    let certificates = read_list::<Octets>(&mut inside, 0x30)?;
+    let revocations = read_list::<Octets>(&mut inside, 0x30)?;
+    let attributes = read_list::<Octets>(&mut inside, 0x30)?;
     finish(&inside)?;
     Ok(IndexParts {
         whole,

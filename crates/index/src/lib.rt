@@ -10,6 +10,7 @@ mod algorithms;
 mod bounds;
 mod contents;
 mod elements;
+mod handing;
 mod indexes;
 mod laws;
 mod located;

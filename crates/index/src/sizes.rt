@@ -9,7 +9,6 @@ ghost use Rattle.index.specs.Sizes.{framed_size_of, list_size_of, algorithm_size
 
 use der::header_size;
 use digest::interface::Digest;
-use fields::same;
 
 /// The contents of SHA-256's identifier.
 static SHA256: [u8; 9] = [0x60, 0x86, 0x48, 0x01, 0x65, 0x03, 0x04, 0x02, 0x01];
@@ -18,7 +17,7 @@ static SHA256: [u8; 9] = [0x60, 0x86, 0x48, 0x01, 0x65, 0x03, 0x04, 0x02, 0x01];
 pub(crate) fn is_left_out(name: &[u8]) -> bool
     ensures { result ≡ bytes_eq name.now sha256_name }
 {
-    same(name, &SHA256)
+    name == SHA256.as_slice()
 }
 
 /// An element with so many bytes of contents.

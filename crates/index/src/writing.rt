@@ -8,43 +8,34 @@ ghost use Rattle.stamp_model.specs.Indexes.{written_for, index_bytes, index_of};
 ghost use Rattle.index.specs.Entries.{entries_bytes, list_tree, lists_bytes};
 ghost use Rattle.index.specs.Puts.{Put, Written};
 ghost use Rattle.index.specs.Sizes.{framed_size_of, list_size_of, algorithm_size_of, index_size};
-ghost use Rattle.index.specs.Standing.{Stand, StandLists, encoded_by};
+ghost use Rattle.index.specs.Standing.{Few, Stand, StandLists, encoded_by};
 
 use crate::elements::{ElementLists, Elements};
 use crate::putting::{put, put_entry, put_header};
 use crate::sizes::{contents_size, entries_size, framed_size, is_left_out};
-use der::Reader;
 use digest::interface::Digest;
 
 /// Puts one entry for each element.
-fn put_entries<G: Digest>(file: &[u8], elements: Elements, area: &mut [u8], at: usize) -> usize
+fn put_entries<G: Digest>(elements: Elements, area: &mut [u8], at: usize) -> usize
     requires { at + elements.count * framed_size_of G.size ≤ length area.old }
-    ensures few { result ≤ at + elements.count * framed_size_of G.size }
-    ensures entries { (ts : List Tree) → Stand file.now elements ts → Put area.old area.new at (entries_bytes G.value ts) result }
+    ensures few { result ≤ at + elements.entry.count * framed_size_of G.size }
+    ensures entries { (ts : List Tree) → Stand elements.entry ts → Put area.old area.new at (entries_bytes G.value ts) result }
 {
-    let mut reader = Reader {
-        bytes: file,
-        at: elements.at,
-        end: elements.end,
-    };
     let mut stop = at;
-    for _ in 0..elements.count {
-        let Ok(element) = reader.next() else {
-            return stop;
-        };
+    for element in elements {
         stop = put_entry::<G>(area, stop, element.whole());
     }
     stop
 }
 
 /// Puts a list: one entry for each element.
-fn put_list<G: Digest>(file: &[u8], elements: Elements, area: &mut [u8], at: usize) -> usize
+fn put_list<G: Digest>(elements: Elements, area: &mut [u8], at: usize) -> usize
     requires { (elements.count ≤ 64) × (at + list_size_of G.size elements.count ≤ length area.old) }
-    ensures few { result ≤ at + list_size_of G.size elements.count }
-    ensures list { (ts : List Tree) → Stand file.now elements ts → Put area.old area.new at (encode (list_tree G.value ts)) result }
+    ensures few { result ≤ at + list_size_of G.size elements.entry.count }
+    ensures list { (ts : List Tree) → Stand elements.entry ts → Put area.old area.new at (encode (list_tree G.value ts)) result }
 {
     let body = put_header(area, at, 0x30, entries_size::<G>(elements.count));
-    put_entries::<G>(file, elements, area, body)
+    put_entries::<G>(elements, area, body)
 }
 
 /// Puts the algorithm for a digest of this name: nothing where the name is left out.
@@ -61,22 +52,22 @@ fn put_algorithm(area: &mut [u8], at: usize, name: &[u8]) -> usize
 }
 
 /// Puts the three lists.
-fn put_lists<G: Digest>(file: &[u8], lists: ElementLists, area: &mut [u8], at: usize) -> usize
-    requires few { (lists.certificates.count ≤ 64) × ((lists.revocations.count ≤ 64) × (lists.attributes.count ≤ 64)) }
+fn put_lists<G: Digest>(lists: ElementLists, area: &mut [u8], at: usize) -> usize
+    requires few { Few lists }
     requires room { at + (list_size_of G.size lists.certificates.count + (list_size_of G.size lists.revocations.count + list_size_of G.size lists.attributes.count)) ≤ length area.old }
-    ensures { (trees : ListName → List Tree) → StandLists file.now lists trees → Put area.old area.new at (lists_bytes G.value trees) result }
+    ensures { (trees : ListName → List Tree) → StandLists lists.entry trees → Put area.old area.new at (lists_bytes G.value trees) result }
 {
-    let revocations = put_list::<G>(file, lists.certificates, area, at);
-    let attributes = put_list::<G>(file, lists.revocations, area, revocations);
-    put_list::<G>(file, lists.attributes, area, attributes)
+    let revocations = put_list::<G>(lists.certificates, area, at);
+    let attributes = put_list::<G>(lists.revocations, area, revocations);
+    put_list::<G>(lists.attributes, area, attributes)
 }
 
 /// Writes the index of the elements to the front of the area, and answers how many bytes it has:
 /// as many as `index_length` tells, for which the area has room. What is behind them stays.
-pub fn write_index<G: Digest>(file: &[u8], lists: ElementLists, area: &mut [u8]) -> usize
-    requires few { (lists.certificates.count ≤ 64) × ((lists.revocations.count ≤ 64) × (lists.attributes.count ≤ 64)) }
+pub fn write_index<G: Digest>(lists: ElementLists, area: &mut [u8]) -> usize
+    requires few { Few lists }
     requires room { index_size G.size G.oid lists.certificates.count lists.revocations.count lists.attributes.count ≤ length area.old }
-    ensures { (trees : ListName → List Tree) → StandLists file.now lists trees
+    ensures { (trees : ListName → List Tree) → StandLists lists.entry trees
         → Written (index_bytes (index_of G.value G.oid (encoded_by trees))) area.old area.new result }
 {
     let contents = contents_size::<G>(
@@ -86,5 +77,5 @@ pub fn write_index<G: Digest>(file: &[u8], lists: ElementLists, area: &mut [u8])
     );
     let inside = put_header(area, 0, 0x30, contents);
     let behind = put_algorithm(area, inside, G::identifier());
-    put_lists::<G>(file, lists, area, behind)
+    put_lists::<G>(lists, area, behind)
 }

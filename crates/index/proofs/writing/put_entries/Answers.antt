@@ -1,62 +1,31 @@
-use Rattle.std.proofs.Common.{◌≡◌, ℕ, ◌*◌, ◌≤◌, List, length, sym, refl, ap, ◌∙◌, subst, add-mul, arith}
-use Rattle.der.specs.Spans.{part}
+use Rattle.std.proofs.Common.{◌≡◌, ℕ, ◌*◌, ◌≤◌, List, length, ap, ◌∙◌, sym, subst, add-mul, arith}
 use Rattle.der.specs.Trees.{encode}
-use Rattle.model.specs.Parts.{row}
 use Rattle.digest.specs.Took.{most}
 use Rattle.stamp_model.specs.Indexes.{entry_tree}
 use Rattle.index.specs.Puts.{Put}
 use Rattle.index.specs.Sizes.{framed_size_of}
-use Rattle.index.proofs.Areas.{put_none}
-use Rattle.index.proofs.Entering.{same_part, none_done, has_next, all_done, next_valid, next_bytes, next_done, few_bytes, more_room, entered_more}
+use Rattle.index.proofs.Entering.{next_of, next_done, all_done, few_bytes, Entered, entered_more}
 use Rattle.index.proofs.writing.put_entries.Goals as goal
 
-pub loop-init : goal.loop-init
-loop-init g c = (refl, refl, omega arith, (λ ts s. none_done _ _ _ _ _ _ (record { valid = s.valid; bytes = s.bytes }) (put_none _ _)))
-
-pub returns-in_default : goal.returns-in_default
-returns-in_default g c =
-    let inv = c.loop.invariant in
-    let room = more_room c.loop.counter c.args.elements.count (framed_size_of g.G.Digest.size) c.loop-test.true in
-    record {
-      few = omega (arith, inv.2);
-      entries = λ ts s.
-          let h = inv.3 ts s in
-          let n = has_next _ _ _ _ _ _ _ h (omega (arith, s.count, c.loop-test.true)) in
-          absurd (c.in_default.ensures.trees n.first (row n.others) s.levels (next_valid _ _ _ _ _ h.left n) (same_part _ _ _ _ _ inv.0 inv.1 ∙ next_bytes _ _ _ _ _ h.left n));
-    }
-
-pub put_entry-stop-requires : goal.put_entry-stop-requires
-put_entry-stop-requires g c =
-    let inv = c.loop.invariant in
-    let room = more_room c.loop.counter c.args.elements.count (framed_size_of g.G.Digest.size) c.loop-test.true in
-    omega (arith, inv.2, c.requires, c.loop.auto.area)
-
-pub loop-preserved : goal.loop-preserved
-loop-preserved g c =
-    let inv = c.loop.invariant in
-    let stands = c.next.ensures.stands in
-    let put = c.put_entry-stop.ensures in (
-      stands.0 ∙ inv.0,
-      stands.1 ∙ inv.1,
-      omega (arith, inv.2, put.ends, add-mul c.loop.counter 1 (framed_size_of g.G.Digest.size)),
+pub loop-element-preserved : goal.loop-element-preserved
+loop-element-preserved g c =
+    let inv = c.loop-element.invariant in
+    let steps = c.in-Some.ensures.steps in
+    let put = c.put_entry-stop.ensures in
+    let size = framed_size_of g.G.Digest.size in (
+      tt,
+      tt,
+      omega (arith, inv.2, put.ends, ap (λ (n : ℕ). n * size) steps.counted, add-mul c.next.new.self.count 1 size),
       (λ ts s.
           let h = inv.3 ts s in
-          let n = has_next _ _ _ _ _ _ _ h (omega (arith, s.count, c.loop-test.true)) in
-          let first = c.in-Ok.ensures.trees n.first (row n.others) s.levels (next_valid _ _ _ _ _ h.left n) (same_part _ _ _ _ _ inv.0 inv.1 ∙ next_bytes _ _ _ _ _ h.left n) in
-          let whole : c.whole.result.now ≡ encode n.first =
-          c.whole.ensures ∙ ap (λ (x : List ℕ). part x c.in-Ok.element.span.start c.in-Ok.element.span.end) c.in-Ok.ensures.reads.0 ∙ first.whole in
-          let few : length c.whole.result.now ≤ most = subst (λ (x : List ℕ). length x ≤ most) (sym whole) (few_bytes n.first s.levels (next_valid _ _ _ _ _ h.left n).0) in
-          let entry : Put c.loop.area c.put_entry-stop.new.area c.loop.stop (encode (entry_tree (g.G.Digest.value (encode n.first)))) c.put_entry-stop.result =
-          subst (λ (x : List ℕ). Put c.loop.area c.put_entry-stop.new.area c.loop.stop (encode (entry_tree (g.G.Digest.value x))) c.put_entry-stop.result) whole (put.entry few) in
-          next_done _ _ _ _ _ _ _ h n _ c.next.new.self.at (same_part _ _ _ _ _ (sym inv.0) (sym inv.1) ∙ first.rest)
+          let n = next_of _ _ _ h.rest h.left steps in
+          let whole : c.whole.result.now ≡ encode n.first = c.whole.ensures ∙ n.handed.whole in
+          let few : length c.whole.result.now ≤ most = subst (λ (x : List ℕ). length x ≤ most) (sym whole) (few_bytes n.first n.handed.valid.0 n.handed.valid.1) in
+          let entry : Put c.loop-element.area c.put_entry-stop.new.area c.loop-element.stop (encode (entry_tree (g.G.Digest.value (encode n.first)))) c.put_entry-stop.result =
+          subst (λ (x : List ℕ). Put c.loop-element.area c.put_entry-stop.new.area c.loop-element.stop (encode (entry_tree (g.G.Digest.value x))) c.put_entry-stop.result) whole (put.entry few) in
+          next_done _ (Entered g.G.Digest.value c.args.area.now c.put_entry-stop.new.area c.args.at c.put_entry-stop.result) _ _ _ ts h n
           (entered_more g.G.Digest.value _ _ _ _ _ _ h.done n.first h.held entry)),
     )
 
-pub returns : goal.returns
-returns g c =
-    let inv = c.loop.invariant in
-    let all : c.loop.counter ≡ c.args.elements.count = omega (arith, c.loop-test.false, c.loop.auto.counter-end) in
-    record {
-      few = omega (arith, inv.2, ap (λ (n : ℕ). n * framed_size_of g.G.Digest.size) all);
-      entries = λ ts s. all_done _ _ _ _ _ _ _ (inv.3 ts s) (omega (arith, s.count, all));
-    }
+pub returns-clause-entries : goal.returns-clause-entries
+returns-clause-entries g c = λ ts s. all_done _ _ _ ts (c.loop-element.invariant.3 ts s) c.in-None.ensures.steps

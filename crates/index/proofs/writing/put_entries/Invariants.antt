@@ -5,10 +5,9 @@ use Rattle.index.specs.Standing.{Stand}
 use Rattle.index.proofs.Entering.{Halfway, Entered}
 use Rattle.index.proofs.writing.put_entries.Given as goal
 
--- the elements that are read have their entries
-abbrev pub invariant-loop : goal.invariant-loop
-invariant-loop g l =
-    (l.reader.bytes.now ≡ l.file) × (l.reader.end ≡ l.initial.reader.end)
-    × (l.stop ≡ l.at + l.counter * framed_size_of g.G.Digest.size)
-    × ((ts : List Tree) (s : Stand l.file (record { at = l.initial.reader.at; end = l.initial.reader.end; count = l.end }) ts) →
-    Halfway (Entered g.G.Digest.value l.initial.area l.area l.at l.stop) s.levels l.file l.reader.at l.initial.reader.end l.counter ts)
+-- the elements that are read have their entries, and there is room for the others
+abbrev pub invariant-loop-element : goal.invariant-loop-element
+invariant-loop-element g l =
+    (goal.iterator-loop-element g).can_next l.element-iterator × (goal.iterator-loop-element g).is_finite l.element-iterator
+    × (l.stop + l.element-iterator.count * framed_size_of g.G.Digest.size ≡ l.at + l.fn.elements.count * framed_size_of g.G.Digest.size)
+    × ((ts : List Tree) → Stand l.fn.elements ts → Halfway (Entered g.G.Digest.value l.initial.area l.area l.at l.stop) l.element-iterator ts)
