@@ -10,3 +10,4 @@ pub mod Sizing
 pub mod Wholes
 pub mod Forming
 pub mod Inside
+pub mod Yielding

@@ -1,44 +1,48 @@
 -- Searches among entries: for the first that is none of the digests, and for one digest.
-use Rattle.std.proofs.Common.{◌≡◌, ℕ, ◌+◌, true, false, List, [], ◌∷◌, map, Some, None, Option, refl, ap, ◌∙◌}
-use Rattle.std.proofs.lemmas.Bool.{cond-true, cond-false}
+use Rattle.std.proofs.Common.{◌≡◌, ℕ, suc, ◌+◌, Bool, true, false, cond, not, ◌||◌, ltb, List, [], ◌∷◌, map, length, Some, None, Option, refl, ap, ◌∙◌, arith}
+use Rattle.std.proofs.lemmas.Bool.Decides.{nat_tests}
 use Rattle.std.specs.Str.{bytes_eq}
-use Rattle.der.specs.Trees.{Tree, body_of}
+use Rattle.der.specs.Trees.{body_of}
 use Rattle.stamp_model.specs.declared.lists.ListName.{ListName}
 use Rattle.stamp_model.specs.declared.lists.ListName.TheVariants.{Certificates, Revocations, Attributes}
 use Rattle.stamp_model.specs.Indexes.{Index, entry_tree, entries_for}
 use Rattle.index.specs.Standing.{entry_trees}
-use Rattle.index.proofs.Entering.{Next}
+use Rattle.std.specs.List.{list_any, position_or_len}
 use Rattle.matching.specs.declared.unmatched.Unmatched.{Unmatched}
 use Rattle.matching.specs.Lists.{holds}
 use Rattle.matching.specs.Unmatched.{first_missing_of, in_list, unmatched_in, or_else, first_unmatched_of}
 
--- the entries `rest`, the first of which has the number n, decide for all of them
-abbrev pub Decides : List (List ℕ) → List Tree → ℕ → List Tree → Type 0
-Decides digests ts n rest = first_missing_of digests 0 (map body_of ts) ≡ first_missing_of digests n (map body_of rest)
+-- one of the lists is these bytes, told by the first that is
+pub any_holds : (xs : List (List ℕ)) (bytes : List ℕ) → list_any (λ x. bytes_eq x bytes) xs ≡ holds xs bytes
+any_holds [] bytes = refl
+any_holds (x ∷ xs) bytes = by (bytes_eq x bytes) ∙ ap (λ (b : Bool). cond (bytes_eq x bytes) true b) (any_holds xs bytes)
+  where
+    by : (b : Bool) → b || list_any (λ y. bytes_eq y bytes) xs ≡ cond b true (list_any (λ y. bytes_eq y bytes) xs)
+    by true = refl
+    by false = refl
 
-module _ (digests : List (List ℕ)) (ts rest : List Tree) (n : ℕ) (d : Decides digests ts n rest) (x : Next rest) where
-  next_decides : first_missing_of digests 0 (map body_of ts) ≡ first_missing_of digests n (body_of x.first ∷ map body_of x.others)
-  next_decides = d ∙ ap (λ (us : List Tree). first_missing_of digests n (map body_of us)) x.split
+-- the first entry that is none of the digests, told by its position
+module _ (digests : List (List ℕ)) where
+  abbrev missing : List ℕ → Bool
+  missing x = not (holds digests x)
 
-  pub decides_on : holds digests (body_of x.first) ≡ true → Decides digests ts (n + 1) x.others
-  decides_on h = next_decides ∙ cond-true (holds digests (body_of x.first)) _ _ h
+  abbrev told : ℕ → List (List ℕ) → Option ℕ
+  told n xs = cond (ltb (position_or_len missing xs) (length xs)) (Some (n + position_or_len missing xs)) None
 
-  pub decides_here : holds digests (body_of x.first) ≡ false → first_missing_of digests 0 (map body_of ts) ≡ Some n
-  decides_here h = next_decides ∙ cond-false (holds digests (body_of x.first)) _ _ h
+  missing_from : (n : ℕ) (xs : List (List ℕ)) → told n xs ≡ first_missing_of digests n xs
+  missing_from n [] = refl
+  missing_from n (x ∷ xs) = by (holds digests x) (missing_from (n + 1) xs)
+    where
+      place : Bool → ℕ
+      place b = cond (not (not b)) (1 + position_or_len missing xs) 0
 
--- the entries `rest` tell whether one of all is the bytes that are wanted
-abbrev pub Tells : List ℕ → List Tree → List Tree → Type 0
-Tells wanted us rest = holds (map body_of us) wanted ≡ holds (map body_of rest) wanted
+      by : (b : Bool) → told (n + 1) xs ≡ first_missing_of digests (n + 1) xs →
+          cond (ltb (place b) (suc (length xs))) (Some (n + place b)) None ≡ cond b (first_missing_of digests (n + 1) xs) (Some n)
+      by true e = grind (arith, nat_tests)
+      by false e = grind (arith, nat_tests)
 
-module _ (wanted : List ℕ) (us rest : List Tree) (d : Tells wanted us rest) (x : Next rest) where
-  next_tells : holds (map body_of us) wanted ≡ holds (body_of x.first ∷ map body_of x.others) wanted
-  next_tells = d ∙ ap (λ (ts : List Tree). holds (map body_of ts) wanted) x.split
-
-  pub tells_on : bytes_eq (body_of x.first) wanted ≡ false → Tells wanted us x.others
-  tells_on h = next_tells ∙ cond-false (bytes_eq (body_of x.first) wanted) _ _ h
-
-  pub tells_here : bytes_eq (body_of x.first) wanted ≡ true → holds (map body_of us) wanted ≡ true
-  tells_here h = next_tells ∙ cond-true (bytes_eq (body_of x.first) wanted) _ _ h
+  pub position_missing : (xs : List (List ℕ)) → cond (ltb (position_or_len missing xs) (length xs)) (Some (position_or_len missing xs)) None ≡ first_missing_of digests 0 xs
+  position_missing xs = ap (λ (k : ℕ). cond (ltb (position_or_len missing xs) (length xs)) (Some k) None) (omega arith) ∙ missing_from 0 xs
 
 -- the contents of entries are the entries
 pub bodies_are : (es : List (List ℕ)) → map body_of (map entry_tree es) ≡ es

@@ -1,23 +1,26 @@
 -- Rows, put one behind another and counted.
-use Rattle.std.proofs.Common.{◌≡◌, ℕ, ◌+◌, ◌<◌, ◌≤◌, List, [], ◌∷◌, ◌++◌, length, get_or, drop, set, sym, refl, ap, ◌∙◌, arith}
-use Rattle.std.proofs.lemmas.List.{drop_more, drop_all}
+use Rattle.std.proofs.Common.{◌≡◌, ℕ, Bool, true, false, cond, filter, ◌+◌, ◌<◌, List, [], ◌∷◌, ◌++◌, length, set, sym, refl, ap, ◌∙◌, arith}
 use Rattle.der.specs.Trees.{Tree, encode}
 use Rattle.stamp_model.specs.declared.lists.ListName.{ListName}
 use Rattle.index.specs.Puts.{Put}
 use Rattle.index.proofs.Areas.{set_put, put_then, put_same}
 use Rattle.matching.specs.declared.row.Side.{Side}
+use Rattle.matching.specs.declared.row.Side.TheVariants.{Outside, Inside}
 use Rattle.matching.specs.declared.row.Row.{Row}
 use Rattle.matching.specs.Rows.{side_for, rows_from, inside_told_by, inside_in}
 
--- one more row is counted
-pub counted_more : (rows : List Row) (k : ℕ) (d : Row) (n m total : ℕ) → k < length rows → m ≡ inside_told_by (get_or rows k d).side → n + inside_in (drop k rows) ≡ total →
-    (n + m) + inside_in (drop (k + 1) rows) ≡ total
-counted_more rows k d n m total l e q =
-    let s : inside_in (drop k rows) ≡ inside_told_by (get_or rows k d).side + inside_in (drop (k + 1) rows) = ap inside_in (drop_more rows k d l) in
-    omega arith
+-- the rows that are inside are counted
+abbrev pub is_inside : Row → Bool
+is_inside r = elim r.side [ Inside ↦ true | Outside ↦ false ]
 
-pub counted_all : (rows : List Row) (k n total : ℕ) → length rows ≤ k → n + inside_in (drop k rows) ≡ total → n ≡ total
-counted_all rows k n total l q = omega (arith, ap inside_in (drop_all k rows l))
+pub inside_counted : (rows : List Row) → length (filter is_inside rows) ≡ inside_in rows
+inside_counted [] = refl
+inside_counted (r ∷ rows) = by r.side (inside_counted rows)
+  where
+    by : (s : Side) → length (filter is_inside rows) ≡ inside_in rows →
+        length (cond (elim s [ Inside ↦ true | Outside ↦ false ]) (r ∷ filter is_inside rows) (filter is_inside rows)) ≡ inside_told_by s + inside_in rows
+    by Inside e = omega (arith, e)
+    by Outside e = omega (arith, e)
 
 pub row_same : (list : ListName) (p q n m : ℕ) (a b : Side) → p ≡ q → n ≡ m → a ≡ b →
     ◌≡◌ {A = Row} (record { list = list; start = p; length = n; side = a }) (record { list = list; start = q; length = m; side = b })

@@ -35,18 +35,18 @@ module _ (D : List ℕ → List ℕ) (lists : ElementLists) (trees : ListName �
       length-append (rows_in D lists trees x Certificates) _ ∙ omega (
         arith,
         length-append (rows_in D lists trees x Revocations) (rows_in D lists trees x Attributes),
-        rows_length D Certificates (entries_for x Certificates) lists.certificates.at (trees Certificates),
-        rows_length D Revocations (entries_for x Revocations) lists.revocations.at (trees Revocations),
-        rows_length D Attributes (entries_for x Attributes) lists.attributes.at (trees Attributes),
+        rows_length D Certificates (entries_for x Certificates) lists.certificates.reader.at (trees Certificates),
+        rows_length D Revocations (entries_for x Revocations) lists.revocations.reader.at (trees Revocations),
+        rows_length D Attributes (entries_for x Attributes) lists.attributes.reader.at (trees Attributes),
       )
 
   -- the rows of one list are put
   abbrev pub PutIn : ListName → List Row → List Row → ℕ → ℕ → Type 0
-  PutIn list was is at end = Put was is at (rows_from D list (map body_of (entry_trees x list)) (elements_for lists list).at (trees list)) end
+  PutIn list was is at end = Put was is at (rows_from D list (map body_of (entry_trees x list)) (elements_for lists list).reader.at (trees list)) end
 
   put_in : (list : ListName) (was is : List Row) (at end : ℕ) → PutIn list was is at end → Put was is at (rows_in D lists trees x list) end
   put_in list was is at end p =
-      put_same was is _ _ at end (ap (λ (es : List (List ℕ)). rows_from D list es (elements_for lists list).at (trees list)) (bodies_are (entries_for x list))) p
+      put_same was is _ _ at end (ap (λ (es : List (List ℕ)). rows_from D list es (elements_for lists list).reader.at (trees list)) (bodies_are (entries_for x list))) p
 
   pub surveyed : (was one two is : List Row) (a b end n : ℕ) → PutIn Certificates was one 0 a → PutIn Revocations one two a b → PutIn Attributes two is b end →
       n ≡ inside_in (take (end - 0) is) → Surveyed (rows_of D lists trees x) was is (record { inside = n; outside = end - n })

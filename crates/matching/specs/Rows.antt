@@ -25,7 +25,7 @@ rows_from D list entries p (t ∷ ts) =
 
 -- for the elements of one list of a file
 abbrev pub rows_in : (List ℕ → List ℕ) → ElementLists → (ListName → List Tree) → Index → ListName → List Row
-rows_in D lists trees x list = rows_from D list (entries_for x list) (elements_for lists list).at (trees list)
+rows_in D lists trees x list = rows_from D list (entries_for x list) (elements_for lists list).reader.at (trees list)
 
 -- for those of the three lists, in their order
 abbrev pub rows_of : (List ℕ → List ℕ) → ElementLists → (ListName → List Tree) → Index → List Row

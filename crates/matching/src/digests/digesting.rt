@@ -6,26 +6,16 @@ ghost use Rattle.index.specs.Standing.{Stand};
 ghost use Rattle.matching.specs.Lists.{parts, digests_bytes, digests_in, holds as Holds};
 
 use super::Digests;
-use der::Reader;
 use digest::interface::Digest;
-use fields::same;
 use index::{Elements, put_digest};
 
 /// Puts the digest of each element, one behind another from the area's front on.
-fn put_digests<G: Digest>(file: &[u8], elements: Elements, area: &mut [u8]) -> usize
+fn put_digests<G: Digest>(elements: Elements, area: &mut [u8]) -> usize
     requires { elements.count * G.size ≤ length area.old }
-    ensures { (ts : List Tree) → Stand file.now elements ts → Put area.old area.new 0 (digests_bytes G.value ts) result }
+    ensures { (ts : List Tree) → Stand elements.entry ts → Put area.old area.new 0 (digests_bytes G.value ts) result }
 {
-    let mut reader = Reader {
-        bytes: file,
-        at: elements.at,
-        end: elements.end,
-    };
     let mut stop = 0;
-    for _ in 0..elements.count {
-        let Ok(element) = reader.next() else {
-            return stop;
-        };
+    for element in elements {
         stop = put_digest::<G>(area, stop, element.whole());
     }
     stop
@@ -46,7 +36,7 @@ fn has_part(bytes: &[u8], size: usize, count: usize, wanted: &[u8]) -> bool
 {
     let mut at = 0;
     for _ in 0..count {
-        if same(part_at(bytes, at, size), wanted) {
+        if part_at(bytes, at, size) == wanted {
             return true;
         }
         at += size;
@@ -56,12 +46,12 @@ fn has_part(bytes: &[u8], size: usize, count: usize, wanted: &[u8]) -> bool
 
 impl Digests {
     /// The digests of the elements that stand there, at most 64.
-    pub fn of<G: Digest>(file: &[u8], elements: Elements) -> Digests
+    pub fn of<G: Digest>(elements: Elements) -> Digests
         requires { elements.count ≤ 64 }
-        ensures { (ts : List Tree) → Stand file.now elements ts → digests_in result ≡ map G.value (map encode ts) }
+        ensures { (ts : List Tree) → Stand elements.entry ts → digests_in result ≡ map G.value (map encode ts) }
     {
         let mut bytes = [0u8; 4096];
-        put_digests::<G>(file, elements, &mut bytes);
+        put_digests::<G>(elements, &mut bytes);
         Digests {
             bytes,
             size: G::width(),

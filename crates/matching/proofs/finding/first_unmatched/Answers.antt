@@ -8,15 +8,15 @@ returns-in-Some g c = λ trees x s t.
     found_first g.G.Digest.value (encoded_by trees) x c.in-Some.unmatched
     (c.in-Some.ensures (trees Certificates) (entry_trees x Certificates) (s Certificates) (t Certificates))
 
-pub returns-in-Some-find_in_list : goal.returns-in-Some-find_in_list
-returns-in-Some-find_in_list g c = λ trees x s t.
-    found_second g.G.Digest.value (encoded_by trees) x c.in-Some-find_in_list.unmatched
+pub returns-in-Some-revocations : goal.returns-in-Some-revocations
+returns-in-Some-revocations g c = λ trees x s t.
+    found_second g.G.Digest.value (encoded_by trees) x c.in-Some-revocations.unmatched
     (c.in_default.ensures (trees Certificates) (entry_trees x Certificates) (s Certificates) (t Certificates))
-    (c.in-Some-find_in_list.ensures (trees Revocations) (entry_trees x Revocations) (s Revocations) (t Revocations))
+    (c.in-Some-revocations.ensures (trees Revocations) (entry_trees x Revocations) (s Revocations) (t Revocations))
 
 pub returns : goal.returns
 returns g c = λ trees x s t.
-    found_third g.G.Digest.value (encoded_by trees) x c.find_in_list-3.result
+    found_third g.G.Digest.value (encoded_by trees) x c.find_in_list.result
     (c.in_default.ensures (trees Certificates) (entry_trees x Certificates) (s Certificates) (t Certificates))
-    (c.in_default-find_in_list.ensures (trees Revocations) (entry_trees x Revocations) (s Revocations) (t Revocations))
-    (c.find_in_list-3.ensures (trees Attributes) (entry_trees x Attributes) (s Attributes) (t Attributes))
+    (c.in_default-revocations.ensures (trees Revocations) (entry_trees x Revocations) (s Revocations) (t Revocations))
+    (c.find_in_list.ensures (trees Attributes) (entry_trees x Attributes) (s Attributes) (t Attributes))

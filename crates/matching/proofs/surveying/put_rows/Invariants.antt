@@ -5,9 +5,10 @@ use Rattle.index.proofs.Entering.{Halfway}
 use Rattle.matching.proofs.Rowing.{Rowed}
 use Rattle.matching.proofs.surveying.put_rows.Given as goal
 
--- the elements that are read have their rows
-abbrev pub invariant-loop : goal.invariant-loop
-invariant-loop g l =
-    (l.reader.bytes.now ≡ l.file) × (l.reader.end ≡ l.initial.reader.end) × (l.stop ≡ l.at + l.counter)
-    × ((ts us : List Tree) (s : Stand l.file (record { at = l.initial.reader.at; end = l.initial.reader.end; count = l.end }) ts) → Stand l.index l.entries us →
-    Halfway (Rowed g.G.Digest.value l.list (map body_of us) l.initial.reader.at l.initial.table l.table l.at l.stop l.reader.at) s.levels l.file l.reader.at l.initial.reader.end l.counter ts)
+-- the elements that are read have their rows, and there is room for the others
+abbrev pub invariant-loop-element : goal.invariant-loop-element
+invariant-loop-element g l =
+    (goal.iterator-loop-element g).can_next l.element-iterator × (goal.iterator-loop-element g).is_finite l.element-iterator
+    × (l.stop + l.element-iterator.count ≡ l.at + l.fn.elements.count)
+    × ((ts us : List Tree) → Stand l.fn.elements ts → Stand l.entries us →
+    Halfway (Rowed g.G.Digest.value l.list (map body_of us) l.fn.elements.reader.at l.initial.table l.table l.at l.stop l.element-iterator.reader.at) l.element-iterator ts)
