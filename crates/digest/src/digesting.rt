@@ -11,6 +11,17 @@ use crate::source::Source;
 /// How many bytes of a source are read at a time.
 const BLOCK: usize = 4096;
 
+/// Writes a digest to the front of the area, whose other bytes stay. Refuses an area that is too short.
+pub fn write_digest(value: &[u8], area: &mut [u8]) -> Result<(), Refusal>
+    ensures { Wrote value.now (length value.now) area.old area.new result }
+{
+    if area.len() < value.len() {
+        return Err(Refusal::ShortArea);
+    }
+    area[..value.len()].copy_from_slice(value);
+    Ok(())
+}
+
 /// Writes the digest of the bytes to the front of the area.
 /// Refuses more than 16,777,216 bytes, and then an area that is too short; the area stays as it was.
 pub fn digest_bytes<G: Digest>(bytes: &[u8], area: &mut [u8]) -> Result<(), Refusal>

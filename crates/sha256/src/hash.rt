@@ -1,40 +1,57 @@
 //! SHA-256 as a digest.
-ghost use Rattle.std.specs.Prelude.{◌≡◌, ℕ, ◌+◌, ◌<◌, ◌≤◌, List, [], ◌∷◌, ◌++◌, length, drop};
-ghost use Rattle.sha256.specs.Sha.{four, written, sha256 as Sha, sha256};
-ghost use Rattle.sha256.specs.Streams.{Holds};
+ghost use Rattle.std.specs.Prelude.{◌≡◌, ◌≤◌, [], ◌∷◌, length};
+ghost use Rattle.sha256.specs.Sha.{written, sha256 as Sha, sha256};
+ghost use Rattle.sha256.specs.Streams.{Chained, Holds};
 ghost use Rattle.std.proofs.Common.{rules};
 
+use crate::padding::padded;
+use crate::rounds::compressed;
 use crate::state::Sha256;
-use crate::stream::Stream;
 use crate::words::Words;
+use block_stream::block::BlockState;
+use block_stream::stream::Stream;
+use digest::digesting::write_digest;
 use digest::interface::Digest;
 use digest::refusal::Refusal;
 
-const MOST: usize = 16_777_216;
-
 static OID: [u8; 9] = [96, 134, 72, 1, 101, 3, 4, 2, 1];
 
-/// Four words as bytes, each high byte first.
-fn bytes_of(a: u32, b: u32, c: u32, d: u32) -> [u8; 16]
-    ensures { result ≡ four a ++ (four b ++ (four c ++ four d)) }
+/// The initial hash value.
+const INITIAL: Words = Words {
+    a: 0x6a09e667,
+    b: 0xbb67ae85,
+    c: 0x3c6ef372,
+    d: 0xa54ff53a,
+    e: 0x510e527f,
+    f: 0x9b05688c,
+    g: 0x1f83d9ab,
+    h: 0x5be0cd19,
+};
+
+/// The digest that a hash value is: its words, each high byte first.
+fn digest_of(w: Words) -> [u8; 32]
+    ensures { result ≡ written w }
 {
-    let a = a.to_be_bytes();
-    let b = b.to_be_bytes();
-    let c = c.to_be_bytes();
-    let d = d.to_be_bytes();
-    [
-        a[0], a[1], a[2], a[3], b[0], b[1], b[2], b[3], c[0], c[1], c[2], c[3], d[0], d[1], d[2],
-        d[3],
-    ]
+    let mut bytes = [0; 32];
+    bytes[0..4].copy_from_slice(&w.a.to_be_bytes());
+    bytes[4..8].copy_from_slice(&w.b.to_be_bytes());
+    bytes[8..12].copy_from_slice(&w.c.to_be_bytes());
+    bytes[12..16].copy_from_slice(&w.d.to_be_bytes());
+    bytes[16..20].copy_from_slice(&w.e.to_be_bytes());
+    bytes[20..24].copy_from_slice(&w.f.to_be_bytes());
+    bytes[24..28].copy_from_slice(&w.g.to_be_bytes());
+    bytes[28..32].copy_from_slice(&w.h.to_be_bytes());
+    bytes
 }
 
-/// The digest that a hash value is goes to the front of the area.
-fn write_words(w: Words, area: &mut [u8])
-    requires { 32 ≤ length area.old }
-    ensures { area.new ≡ written w ++ drop 32 area.old }
-{
-    area[0..16].copy_from_slice(&bytes_of(w.a, w.b, w.c, w.d));
-    area[16..32].copy_from_slice(&bytes_of(w.e, w.f, w.g, w.h));
+impl BlockState<64> for Words {
+    ghost stands = { Chained };
+
+    ghost sized = { Prim.search rules };
+
+    fn take_block(&mut self, block: &[u8; 64]) {
+        *self = compressed(*self, block);
+    }
 }
 
 impl Digest for Sha256 {
@@ -56,7 +73,7 @@ impl Digest for Sha256 {
 
     fn start() -> Sha256 {
         Sha256 {
-            stream: Stream::empty(),
+            stream: Stream::new(INITIAL),
         }
     }
 
@@ -69,18 +86,10 @@ impl Digest for Sha256 {
     }
 
     fn take(&mut self, block: &[u8]) -> Result<(), Refusal> {
-        if block.len() > MOST - self.stream.count {
-            return Err(Refusal::LongInput);
-        }
-        self.stream.absorb(block);
-        Ok(())
+        self.stream.take(block)
     }
 
     fn finish(&self, area: &mut [u8]) -> Result<(), Refusal> {
-        if area.len() < 32 {
-            return Err(Refusal::ShortArea);
-        }
-        write_words(self.stream.padded().words, area);
-        Ok(())
+        write_digest(&digest_of(padded(self.stream)), area)
     }
 }

@@ -3,9 +3,8 @@
 
 pub mod example;
 pub mod hash;
+mod padding;
 mod rounds;
 pub mod state;
-mod stream;
-mod streaming;
 mod window;
 mod words;

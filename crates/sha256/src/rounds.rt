@@ -1,6 +1,6 @@
 //! The rounds of the compression function.
-ghost use Rattle.std.specs.Prelude.{◌≡◌, ℕ, ◌+◌, ◌*◌, ◌/◌, ◌≤◌, List, length};
-ghost use Rattle.sha256.specs.Sha.{Ch, Maj, Σ₀, Σ₁, σ₀, σ₁, M as word_of, mixed, round as round_of, added, compress, H as hash_value};
+ghost use Rattle.std.specs.Prelude.{◌≡◌, ℕ, ◌+◌, ◌<◌, ◌≤◌, List};
+ghost use Rattle.sha256.specs.Sha.{Ch, Maj, Σ₀, Σ₁, σ₀, σ₁, M as word_of, mixed, round as round_of, added, compress};
 ghost use Rattle.sha256.specs.Windows.{Slid, Reached};
 
 use crate::window::{Step, Window};
@@ -124,8 +124,8 @@ fn four_rounds<const I: usize>(from: Step) -> Step
 }
 
 /// The word at i of a block, high byte first.
-fn load(block: &[u8], i: usize) -> u32
-    requires { 4 * i + 4 ≤ length block.now }
+fn load(block: &[u8; 64], i: usize) -> u32
+    requires { i < 16 }
     ensures { result ≡ word_of block.now i }
 {
     let at = 4 * i;
@@ -133,8 +133,7 @@ fn load(block: &[u8], i: usize) -> u32
 }
 
 /// The words of a block: the schedule's first sixteen.
-fn first_window(block: &[u8]) -> Window
-    requires { length block.now ≡ 64 }
+fn first_window(block: &[u8; 64]) -> Window
     ensures { Slid block.now 0 result }
 {
     Window {
@@ -173,8 +172,7 @@ fn add(s: Words, t: Words) -> Words
 }
 
 /// The hash value after a block.
-fn compressed(s: Words, block: &[u8]) -> Words
-    requires { length block.now ≡ 64 }
+pub(crate) fn compressed(s: Words, block: &[u8; 64]) -> Words
     ensures { result ≡ compress s block.now }
 {
     let p = Step {
@@ -198,15 +196,4 @@ fn compressed(s: Words, block: &[u8]) -> Words
     let p = four_rounds::<56>(p);
     let p = four_rounds::<60>(p);
     add(s, p.words)
-}
-
-/// The hash value after the whole blocks of the bytes. Kept in one loop, it stays in registers from block to block.
-pub(crate) fn compress_blocks(s: Words, bytes: &[u8]) -> Words
-    ensures { result ≡ hash_value (length bytes.now / 64) s bytes.now }
-{
-    let mut t = s;
-    for i in 0..bytes.len() / 64 {
-        t = compressed(t, &bytes[64 * i..64 * i + 64]);
-    }
-    t
 }

@@ -1,7 +1,7 @@
 pub mod Bits
-pub mod Holding
+pub mod Chaining
+pub mod Endings
 pub mod Keeping
 pub mod Linear
-pub mod Padding
 pub mod Steps
 pub mod Twists

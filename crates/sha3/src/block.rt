@@ -1,14 +1,17 @@
 //! Blocks of 136 bytes that go into a state, and the bytes that come out of it.
-ghost use Rattle.std.specs.Prelude.{◌≡◌, ◌+◌, ◌<◌, length, bit_xor};
+ghost use Rattle.std.specs.Prelude.{◌≡◌, ◌+◌, ◌<◌, bit_xor};
 ghost use Rattle.sha3.specs.Sha3.{absorb, mixed, squeezed, word as word_at, words};
 ghost use Rattle.sha3.specs.States.{in_row, lanes, plane};
+ghost use Rattle.sha3.specs.Streams.{Chained};
+ghost use Rattle.std.proofs.Common.{rules};
 
 use crate::lanes::{Plane, State};
 use crate::permutation::permute;
+use block_stream::block::BlockState;
 
 /// The eight bytes of the lane i of a block, lowest first.
-fn read_lane(block: &[u8], i: usize) -> u64
-    requires { (i < 17) × (length block.now ≡ 136) }
+fn read_lane(block: &[u8; 136], i: usize) -> u64
+    requires { i < 17 }
     ensures { result ≡ word_at block.now i }
 {
     let at = 8 * i;
@@ -25,8 +28,8 @@ fn read_lane(block: &[u8], i: usize) -> u64
 }
 
 /// The plane with five lanes of the block, from i on, added.
-fn mix_plane(p: Plane, block: &[u8], i: usize) -> Plane
-    requires { (i + 4 < 17) × (length block.now ≡ 136) }
+fn mix_plane(p: Plane, block: &[u8; 136], i: usize) -> Plane
+    requires { i + 4 < 17 }
     ensures { result ≡ plane (λ x. bit_xor (in_row p x) (word_at block.now (i + x))) }
 {
     Plane {
@@ -39,8 +42,7 @@ fn mix_plane(p: Plane, block: &[u8], i: usize) -> Plane
 }
 
 /// The state with the 17 lanes of the block added.
-fn mix(s: State, block: &[u8]) -> State
-    requires { length block.now ≡ 136 }
+fn mix(s: State, block: &[u8; 136]) -> State
     ensures { lanes result ≡ mixed (lanes s) (words block.now) }
 {
     let x0 = s.y3.x0 ^ read_lane(block, 15);
@@ -54,12 +56,21 @@ fn mix(s: State, block: &[u8]) -> State
     }
 }
 
-/// The block goes into the state.
-pub fn absorb_block(state: &mut State, block: &[u8])
-    requires { length block.now ≡ 136 }
-    ensures { lanes state.new ≡ absorb (lanes state.old) block.now }
+/// The state after the block.
+fn absorbed(s: State, block: &[u8; 136]) -> State
+    ensures { lanes result ≡ absorb (lanes s) block.now }
 {
-    *state = permute(mix(*state, block));
+    permute(mix(s, block))
+}
+
+impl BlockState<136> for State {
+    ghost stands = { Chained };
+
+    ghost sized = { Prim.search rules };
+
+    fn take_block(&mut self, block: &[u8; 136]) {
+        *self = absorbed(*self, block);
+    }
 }
 
 /// The digest that a state holds: its first four lanes.

@@ -8,6 +8,6 @@ mod block;
 pub mod hash;
 pub mod lanes;
 pub mod laws;
+mod padding;
 mod permutation;
 pub mod state;
-pub mod stream;

@@ -136,6 +136,8 @@ fn pi(s: State) -> State
     }
 }
 
+// The five planes differ in which lanes are kept turned, and so in their formulas: a function for each.
+
 /// χ of the plane 0, on lanes as they are kept.
 fn twist0(p: Plane) -> Plane
     ensures { mixed (row result) (in_plane 0 kept) ≡ twisted (mixed (row p) (in_plane 0 before)) }
@@ -268,8 +270,8 @@ pub fn permute(s: State) -> State
     ensures { lanes result ≡ keccak (lanes s) }
 {
     let mut t = turn_kept(s);
-    for i in 0..24 {
-        t = round(t, CONSTANTS[i]);
+    for constant in CONSTANTS {
+        t = round(t, constant);
     }
     turn_kept(t)
 }

@@ -1,4 +1,4 @@
-use Rattle.sha3.proofs.Padding.{padded_bitwise, padded_whole}
+use Rattle.sha3.proofs.Endings.{padded_bitwise, padded_whole}
 use Rattle.sha3.proofs.laws.padding_stands.Goals as goal
 
 pub returns : goal.returns

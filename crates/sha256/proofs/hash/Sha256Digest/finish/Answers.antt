@@ -1,17 +1,10 @@
-use Rattle.std.proofs.Common.{◌≡◌, ◌++◌, drop, sym, refl, ap, ◌∙◌, subst, arith}
-use Rattle.sha256.specs.Sha.{sha256, written, padded, padding}
-use Rattle.sha256.specs.Streams.{Holds}
-use Rattle.sha256.proofs.Holding.{holds_fed}
+use Rattle.std.proofs.Common.{◌≡◌, length, ap, ◌∙◌, subst}
+use Rattle.digest.specs.Took.{Wrote}
+use Rattle.sha256.specs.Sha.{sha256, written}
 use Rattle.sha256.proofs.hash.Sha256Digest.finish.Goals as goal
 
 pub returns : goal.returns
-unfolding sha256 padded
+unfolding sha256 written
 returns c = λ xs is.
-    let s = c.args.self.now.stream in
-    let e : xs ++ padding s.count ≡ padded xs = ap (λ n. xs ++ padding n) is.counted in
-    let h : Holds c.padded.result (padded xs) =
-    subst (Holds c.padded.result) e (subst (λ t. Holds t (xs ++ padding s.count)) (sym c.padded.ensures) (holds_fed (padding s.count) s xs is)) in
-    record {
-      fits = λ _. (refl, c.write_words.ensures ∙ ap (λ w. written w ++ drop 32 c.args.area.now) h.chained);
-      short = λ l. absurd (omega arith);
-    }
+    let value : c.digest_of.result ≡ sha256 xs = c.digest_of.ensures ∙ ap written (c.padded.ensures xs is) in
+    subst (λ v. Wrote v (length v) c.args.area.now c.write_digest.new.area c.write_digest.result) value c.write_digest.ensures

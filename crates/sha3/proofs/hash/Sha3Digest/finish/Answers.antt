@@ -1,13 +1,10 @@
-use Rattle.std.proofs.Common.{◌≡◌, ◌++◌, drop, refl, ap, ◌∙◌, arith}
+use Rattle.std.proofs.Common.{◌≡◌, length, ap, ◌∙◌, subst}
+use Rattle.digest.specs.Took.{Wrote}
 use Rattle.sha3.specs.Sha3.{sha3, squeezed}
 use Rattle.sha3.proofs.hash.Sha3Digest.finish.Goals as goal
 
 pub returns : goal.returns
-unfolding sha3
+unfolding sha3 squeezed
 returns c = λ xs is.
-    let v : c.copy_from_slice.new.self ≡ sha3 xs =
-    c.copy_from_slice.ensures.after ∙ c.squeeze-bytes.ensures ∙ ap squeezed (c.pad.ensures xs is).chained in
-    record {
-      fits = λ _. (refl, ap (λ z. z ++ drop 32 c.args.area.now) v);
-      short = λ l. absurd (omega arith);
-    }
+    let value : c.squeeze.result ≡ sha3 xs = c.squeeze.ensures ∙ ap squeezed (c.padded.ensures xs is) in
+    subst (λ v. Wrote v (length v) c.args.area.now c.write_digest.new.area c.write_digest.result) value c.write_digest.ensures

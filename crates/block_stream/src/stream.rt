@@ -1,0 +1,80 @@
+//! Bytes in any pieces, given to a state in whole blocks.
+ghost use Rattle.std.specs.Prelude.{◌≡◌, ℕ, ◌+◌, ◌%◌, ◌^◌, ◌<◌, ◌≤◌, List, [], ◌++◌, length, take, drop};
+ghost use Rattle.digest.specs.Took.{Took, most};
+ghost use Rattle.block_stream.specs.Streams.{Holds};
+
+use crate::block::{BlockState, take_blocks};
+use digest::interface::MOST_TAKEN;
+use digest::refusal::Refusal;
+
+/// The state after the whole blocks so far; what is left over stands at the front of the buffer.
+#[derive(Clone, Copy)]
+pub struct Stream<S, const N: usize> {
+    pub state: S,
+    pub buffer: [u8; N],
+    pub count: usize,
+}
+
+/// Writes the bytes over those of the buffer from the place on.
+fn put(buffer: &mut [u8], place: usize, bytes: &[u8])
+    requires { place + length bytes.now ≤ length buffer.old }
+    ensures { buffer.new ≡ take place buffer.old ++ (bytes.now ++ drop (place + length bytes.now) buffer.old) }
+{
+    buffer[place..place + bytes.len()].copy_from_slice(bytes);
+}
+
+impl<S: BlockState<N>, const N: usize> Stream<S, N> {
+    /// The stream that has taken nothing.
+    pub fn new(state: S) -> Stream<S, N>
+        ensures holds { S.stands state [] → Holds N S.stands result [] }
+        ensures counts { result.count ≡ 0 }
+    {
+        Stream {
+            state,
+            buffer: [0; N],
+            count: 0,
+        }
+    }
+
+    /// Takes the bytes, whole blocks straight from the slice.
+    fn absorb(&mut self, bytes: &[u8])
+        ensures holds { (xs : List ℕ) → Holds N S.stands self.old xs → length xs + length bytes.now < 2 ^ 64 → Holds N S.stands self.new (xs ++ bytes.now) }
+        ensures counts { self.old.count + length bytes.now < 2 ^ 64 → self.new.count ≡ self.old.count + length bytes.now }
+    {
+        let used = self.count % N;
+        self.count = self.count.wrapping_add(bytes.len());
+        let room = N - used;
+        if bytes.len() < room {
+            put(&mut self.buffer, used, bytes);
+            return;
+        }
+        let (first, rest) = bytes.split_at(room);
+        put(&mut self.buffer, used, first);
+        let (state, _) = take_blocks(self.state, &self.buffer);
+        let (state, left) = take_blocks(state, rest);
+        self.state = state;
+        put(&mut self.buffer, 0, left);
+    }
+
+    /// Takes the bytes, or refuses them where there would be more than a digest takes.
+    pub fn take(&mut self, bytes: &[u8]) -> Result<(), Refusal>
+        ensures few { self.old.count ≤ most → self.new.count ≤ most }
+        ensures took { (xs : List ℕ) → Holds N S.stands self.old xs → Took (Holds N S.stands) self.new bytes.now xs result }
+    {
+        if self.count.saturating_add(bytes.len()) > MOST_TAKEN {
+            return Err(Refusal::LongInput);
+        }
+        self.absorb(bytes);
+        Ok(())
+    }
+
+    /// The state after the bytes and a padding that makes whole blocks of them.
+    pub fn padded(self, padding: &[u8]) -> S
+        ensures { (xs : List ℕ) → Holds N S.stands self xs → length xs + length padding.now < 2 ^ 64 → (length xs + length padding.now) % N ≡ 0
+            → S.stands result (xs ++ padding.now) }
+    {
+        let mut stream = self;
+        stream.absorb(padding);
+        stream.state
+    }
+}
