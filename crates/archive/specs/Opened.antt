@@ -1,16 +1,15 @@
 -- Files that are opened, and their signers.
-use Rattle.std.specs.Prelude.{◌≡◌, ℕ, List, take, Some}
-use Rattle.std.specs.List.{slice_get}
+use Rattle.std.specs.Prelude.{◌≡◌, ℕ, List, take, Some, slice_get}
 use Rattle.cms.specs.declared.located.Message.{Message}
 use Rattle.model.specs.Parts.{Signer}
 use Rattle.model.specs.Files.{File}
 use Rattle.message.specs.Formed.{LiesAt}
 use Rattle.message.specs.Lies.{SignerLies}
-use Rattle.opening.specs.declared.opened.Opened.{Opened}
-use Rattle.opening.specs.declared.refusal.Refusal.{Refusal}
-use Rattle.opening.specs.declared.refusal.Refusal.TheVariants.{Length, Element, Field, Count, Rule, NoSigner, NoList, AddedElement, AddedField, Barred, Content, NoStamp, Malformed, OtherDigest, OtherImprint, NoElement, Equal, Room}
-use Rattle.opening.specs.Accepted.{Fits, Accepted}
-use Rattle.opening.specs.Steps.{RefusedFile}
+use Rattle.archive.specs.declared.opened.Opened.{Opened}
+use Rattle.archive.specs.declared.refusal.Refusal.{Refusal}
+use Rattle.archive.specs.declared.refusal.Refusal.TheVariants.{Length, Element, Field, Count, Rule, NoSigner}
+use Rattle.archive.specs.Accepted.{Fits, Accepted}
+use Rattle.archive.specs.Steps.{RefusedFile}
 
 -- the file, the first n bytes of the buffer, is f, and is accepted
 pub record Opens (buffer : List ℕ) (n : ℕ) (f : File) : Type 0 where
@@ -29,18 +28,6 @@ Shut buffer n (Field p) = Fits buffer n × RefusedFile (take n buffer) (Field p)
 Shut buffer n (Count p) = Fits buffer n × RefusedFile (take n buffer) (Count p)
 Shut buffer n (Rule p) = Fits buffer n × RefusedFile (take n buffer) (Rule p)
 Shut buffer n NoSigner = ⊥
-Shut buffer n NoList = ⊥
-Shut buffer n (AddedElement fault) = ⊥
-Shut buffer n (AddedField p) = ⊥
-Shut buffer n Barred = ⊥
-Shut buffer n Content = ⊥
-Shut buffer n NoStamp = ⊥
-Shut buffer n Malformed = ⊥
-Shut buffer n OtherDigest = ⊥
-Shut buffer n OtherImprint = ⊥
-Shut buffer n NoElement = ⊥
-Shut buffer n Equal = ⊥
-Shut buffer n Room = ⊥
 
 -- signer k of the file is s
 pub record OpensSigner (buffer : List ℕ) (n k : ℕ) (f : File) (s : Signer) : Type 0 where
