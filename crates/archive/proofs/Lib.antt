@@ -1,4 +1,3 @@
-pub mod Forming
-pub mod Lying
+pub mod Opening
 pub mod Telling
 pub mod Exact

@@ -1,52 +1,63 @@
--- A signer by its number, and what is told of it.
-use Rattle.std.proofs.Common.{◌≡◌, ℕ, zero, suc, ◌+◌, ◌-◌, List, [], ◌∷◌, take, Some, None, Option, Result, sym, refl, ap, subst, arith, MatchResult}
+-- What is told of a signer of a file that is opened.
+use Rattle.std.proofs.Common.{◌≡◌, ℕ, zero, suc, ◌-◌, List, [], ◌∷◌, take, length, Some, None, Option, sym, refl, subst, arith}
+use Rattle.std.specs.List.{AllByRecursion, slice_get}
+use Rattle.der.specs.Trees.{Tree}
+use Rattle.fields.specs.declared.located.Entries.{Entries}
 use Rattle.cms.specs.declared.located.Signer.{Signer as Located}
-use Rattle.cms.specs.Places.{signer_at}
-use Rattle.fields.specs.Rules.{head_size, body_size}
-use Rattle.model.specs.Parts.{Signer, signer_tree}
+use Rattle.model.specs.Parts.{given, Signer, signer_tree}
+use Rattle.model.specs.Shapes.{SignerShape}
+use Rattle.rules.specs.Offsets.{behind}
+use Rattle.rules.specs.Signers.{SignerThere}
+use Rattle.rules.proofs.SignerReading.{signer_there}
 use Rattle.model.specs.Files.{File}
-use Rattle.rules.specs.Signers.{SignerThere, Signers, signer_number}
-use Rattle.rules.proofs.SignerReading.{signer_there, other_signers}
+use Rattle.message.specs.Lies.{ListLies, Lies, entries_count, SignerLies}
+use Rattle.message.proofs.Lying.{file_lies}
 use Rattle.archive.specs.declared.answers.Reading.{Reading}
-use Rattle.archive.specs.declared.refusal.Refusal.{Refusal}
-use Rattle.archive.specs.declared.refusal.Refusal.TheVariants.{Length, Element, Field, Count, Rule, NoSigner}
-use Rattle.archive.specs.Accepted.{Fits, Accepted}
-use Rattle.archive.specs.Outcome.{Served, Refused, signer_of}
-use Rattle.archive.specs.Steps.{RefusedFile, told_of}
+use Rattle.archive.specs.declared.opened.Opened.{Opened}
+use Rattle.archive.specs.Accepted.{file_settings}
+use Rattle.archive.specs.Opened.{SignerOpened}
+use Rattle.archive.specs.Outcome.{Served, reading_of}
+use Rattle.archive.proofs.Opening.{front_is}
 
-pub no_number : (n p : ℕ) (ss : List Signer) → None ≡ signer_number n p ss → signer_of n ss ≡ None
-no_number n p [] e = refl
-no_number zero p (s ∷ ss) e = absurd (let z : ◌≡◌ {A = ℕ} 0 1 = cc in omega arith)
-no_number (suc n) p (s ∷ ss) e = no_number n (p + head_size (signer_tree s) + body_size (signer_tree s)) ss e
+-- a list has as many entries as its record says
+pub counted : (levels : ℕ) (bytes : List ℕ) (o : Option Entries) (ts : Option (List Tree)) → ListLies levels bytes o ts → entries_count o ≡ length (given ts)
+counted levels bytes None None l = refl
+counted levels bytes None (Some ts) l = absurd l
+counted levels bytes (Some e) None l = absurd l
+counted levels bytes (Some e) (Some ts) l = l.0
 
-pub number_there : (n levels : ℕ) (file : List ℕ) (at end : ℕ) (ss : List Signer) (x : Located) → Signers levels file at end ss → Some x ≡ signer_number n at ss →
-    (s : Signer) × (signer_of n ss ≡ Some s) × ((p : ℕ) × SignerThere (levels - 1 - 1) file x p s)
-number_there n levels file at end [] x r e = absurd (let z : ◌≡◌ {A = ℕ} 0 1 = cc in omega arith)
-number_there zero levels file at end (s ∷ ss) x r e =
-    let q : signer_at (record { at = at; tree = signer_tree s }) ≡ x = cc in
-    (s, refl, (at, subst (λ (y : Located). SignerThere (levels - 1 - 1) file y at s) q (signer_there levels file at end s ss r)))
-number_there (suc n) levels file at end (s ∷ ss) x r e =
-    number_there n levels file (at + head_size (signer_tree s) + body_size (signer_tree s)) end ss x (other_signers levels file at end s ss r) e
+-- each signer has its shape
+pub shape_of : (k : ℕ) (ss : List Signer) (s : Signer) → AllByRecursion SignerShape ss → slice_get ss k ≡ Some s → SignerShape s
+shape_of k [] s a e = absurd (let z : ◌≡◌ {A = ℕ} 0 1 = cc in omega arith)
+shape_of zero (t ∷ ss) s a e = let q : t ≡ s = cc in subst SignerShape q a.0
+shape_of (suc k) (t ∷ ss) s a e = shape_of k ss s a.1 e
 
--- what refuses the file refuses the call
-pub refused_by : (buffer : List ℕ) (n k : ℕ) (e : Refusal) → Fits buffer n → RefusedFile (take n buffer) e → Refused buffer n k e
-refused_by buffer n k Length h r = absurd r
-refused_by buffer n k (Element fault) h r = (h, r)
-refused_by buffer n k (Field p) h r = (h, r)
-refused_by buffer n k (Count p) h r = (h, r)
-refused_by buffer n k (Rule p) h r = (h, r)
-refused_by buffer n k NoSigner h r = absurd r
+-- a signer that lies there by the message's word does so by that of the rules
+pub there_of : (bytes : List ℕ) (x : Located) (s : Signer) → SignerShape s → (w : SignerLies bytes x s) → SignerThere (w.levels - 1 - 1) bytes x w.at s
+there_of bytes x s h w =
+    subst (λ (y : Located). SignerThere (w.levels - 1 - 1) bytes y w.at s) (sym w.located)
+    (signer_there w.levels bytes w.at (behind w.at (signer_tree s)) s []
+    (record { valid = w.stands.valid; shape = (h, tt); bytes = w.stands.bytes; order = w.stands.order; inside = w.stands.inside }))
 
--- what is told of an accepted file is what the call answers
-pub told_by : (buffer : List ℕ) (n k : ℕ) (f : File) (o : Option Signer) (r : Result Reading Refusal) → Fits buffer n → Accepted (take n buffer) f → signer_of k f.signers ≡ o → r ≡ told_of f o →
-    MatchResult r (Served buffer n k) (Refused buffer n k)
-told_by buffer n k f None r h a q e = subst (λ (x : Result Reading Refusal). MatchResult x (Served buffer n k) (Refused buffer n k)) (sym e) (h, (f, a, q))
-told_by buffer n k f (Some s) r h a q e = subst (λ (x : Result Reading Refusal). MatchResult x (Served buffer n k) (Refused buffer n k)) (sym e) (h, (f, a, (s, q, refl)))
-
-pub signers_moved : (levels : ℕ) (bs bs' : List ℕ) (at at' end end' : ℕ) (ss : List Signer) → bs ≡ bs' → at ≡ at' → end ≡ end' → Signers levels bs at end ss → Signers levels bs' at' end' ss
-signers_moved levels bs bs' at at' end end' ss p q e r =
-    subst (λ (x : ℕ). Signers levels bs' at' x ss) e (subst (λ (x : ℕ). Signers levels bs' x end ss) q (subst (λ (x : List ℕ). Signers levels x at end ss) p r))
-
--- `&buffer[0..n]`
-pub front_is : (buffer : List ℕ) (n : ℕ) → take (n - 0) buffer ≡ take n buffer
-front_is buffer n = ap (λ (m : ℕ). take m buffer) (let e : n - 0 ≡ n = omega arith in e)
+-- what is told of a signer of a file that is opened
+pub served : (buffer : List ℕ) (n k : ℕ) (o : Opened) (reading : Reading) → SignerOpened buffer n k o →
+    ((f : File) (levels p : ℕ) (s : Signer) → Lies (take (n - 0) buffer) o.message f → SignerThere levels (take (n - 0) buffer) o.signer p s → reading ≡ reading_of f s) → Served buffer n k reading
+served buffer n k o reading w told =
+    let opens = w.opens.opens in
+    let formed = opens.accepted.formed in
+    let lies = file_lies file_settings 32 (take n buffer) w.file formed o.message w.message in
+    let shape = shape_of k w.file.signers w.signer formed.shape.signers w.opens.signer in
+    let there = there_of (take n buffer) o.signer w.signer shape w.lies in
+    let same = sym (front_is buffer n) in (
+      opens.fits,
+      (
+        w.file,
+        opens.accepted,
+        (
+          w.signer,
+          w.opens.signer,
+          told w.file (w.lies.levels - 1 - 1) w.lies.at w.signer (subst (λ (x : List ℕ). Lies x o.message w.file) same lies)
+              (subst (λ (x : List ℕ). SignerThere (w.lies.levels - 1 - 1) x o.signer w.lies.at w.signer) same there),
+        ),
+      ),
+    )

@@ -1,11 +1,10 @@
 -- Which bytes are a file that is accepted.
 use Rattle.std.specs.Prelude.{◌≡◌, ℕ, ◌<◌, ◌≤◌, List, length, None}
-use Rattle.der.specs.Trees.{Valid}
 use Rattle.cms.specs.declared.settings.Settings.{Settings}
 use Rattle.cms.specs.declared.settings.SignerCount.TheVariants.{AtLeastOne}
 use Rattle.cms.specs.declared.settings.ContentForm.TheVariants.{Any}
-use Rattle.model.specs.Files.{File, file_tree, file_bytes}
-use Rattle.model.specs.Shapes.{Shape}
+use Rattle.model.specs.Files.{File}
+use Rattle.message.specs.Formed.{Formed as FormedBy}
 use Rattle.rules.specs.Limits.{first_too_many_of}
 use Rattle.rules.specs.Attributes.{broken_rule_of}
 
@@ -19,11 +18,9 @@ pub record Fits (buffer : List ℕ) (n : ℕ) : Type 0 where
   pub short : n ≤ 65535
   pub there : n ≤ length buffer
 
--- the bytes are those of a file by its form: its parts have their shape, and there are at most 32 levels
-pub record Formed (bytes : List ℕ) (f : File) : Type 0 where
-  pub shape : Shape file_settings f
-  pub valid : Valid (file_tree f) 32
-  pub bytes_are : bytes ≡ file_bytes f
+-- the bytes are those of a file by its form, with at most 32 levels
+abbrev pub Formed : List ℕ → File → Type 0
+Formed bytes f = FormedBy file_settings 32 bytes f
 
 -- and it keeps the limits and the rules of attributes
 pub record Accepted (bytes : List ℕ) (f : File) : Type 0 where

@@ -1,11 +1,10 @@
 -- What is answered of an accepted file.
-use Rattle.std.specs.Prelude.{◌≡◌, ℕ, List, take, Result, MatchResult}
+use Rattle.std.specs.Prelude.{◌≡◌, ℕ, List, take, Result, MatchResult, slice_get}
 use Rattle.model.specs.Files.{File}
 use Rattle.archive.specs.declared.answers.Reading.{Reading}
 use Rattle.archive.specs.declared.refusal.Refusal.{Refusal}
 use Rattle.archive.specs.Accepted.{Fits, Accepted}
-use Rattle.archive.specs.Outcome.{Served, Refused, signer_of}
-use Rattle.archive.specs.Steps.{told_of}
+use Rattle.archive.specs.Outcome.{told_of, Served, Refused}
 
 -- what `read` may answer
 abbrev pub Outcome : List ℕ → ℕ → ℕ → Result Reading Refusal → Type 0
@@ -15,7 +14,7 @@ Outcome buffer n k r = MatchResult r (Served buffer n k) (Refused buffer n k)
 -- it is served exactly when the signer is there, and refused with 6 when it is not
 abbrev pub Exactly : Type 0
 Exactly = (buffer : List ℕ) (n k : ℕ) (r : Result Reading Refusal) → Outcome buffer n k r → (f : File) → Fits buffer n → Accepted (take n buffer) f →
-    r ≡ told_of f (signer_of k f.signers)
+    r ≡ told_of f (slice_get f.signers k)
 
 -- bytes are those of one accepted file at most
 abbrev pub OneAccepted : Type 0

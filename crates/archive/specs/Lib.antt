@@ -3,3 +3,5 @@ pub mod Accepted
 pub mod Outcome
 pub mod Steps
 pub mod Laws
+pub mod Opened
+pub mod Texts

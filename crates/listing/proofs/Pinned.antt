@@ -1,5 +1,5 @@
 -- A file has one outline: what is told of it is all that can be told.
-use Rattle.std.proofs.Common.{◌≡◌, ℕ, ◌+◌, ◌<◌, ◌≤◌, List, [], ◌++◌, length, drop, sym, refl, ap, ◌∙◌, arith}
+use Rattle.std.proofs.Common.{◌≡◌, ℕ, ◌+◌, ◌<◌, ◌≤◌, List, [], ◌++◌, length, drop, Ok, Err, Result, sym, refl, ap, ◌∙◌, arith}
 use Rattle.std.proofs.lemmas.List.{append-nil, length-drop, take-append-drop}
 use Rattle.der.specs.declared.fault.Fault.{Fault}
 use Rattle.der.specs.Trees.{Tree, Starts, encode}
@@ -8,11 +8,10 @@ use Rattle.der.proofs.Unique.{same_tree, no_fault, one_fault}
 use Rattle.listing.specs.declared.refusal.Refusal.{Refusal}
 use Rattle.listing.specs.declared.refusal.Refusal.TheVariants.{Length, Element, Surplus}
 use Rattle.listing.specs.declared.outline.Outline.{Outline}
-use Rattle.listing.specs.declared.outline.Outline.TheVariants.{Lines, Refused}
 use Rattle.listing.specs.Listed.{lines_of}
 use Rattle.listing.specs.Told.{Whole, Refuses, Tells}
 use Rattle.listing.specs.Words.{refusal_text}
-use Rattle.listing.specs.Pages.{ended, lines_text, outline_text, TextOf}
+use Rattle.listing.specs.Pages.{ended, lines_text, told_text, TextOf}
 use Rattle.listing.proofs.Turns.{Begins, header_is, parts_of_lem}
 
 -- the bytes begin with the tree
@@ -57,12 +56,12 @@ not_both bs t (Surplus n) w x = absurd (no_surplus bs n t w x.1 x.2)
 one_tree : (bs : List ℕ) (t u : Tree) → Whole bs t → Whole bs u → t ≡ u
 one_tree bs t u w x = (same_tree t u 32 [] [] w.1 x.1 (sym (whole_begins bs t w).1 ∙ (whole_begins bs u x).1)).0
 
-same_outline : (bs : List ℕ) (o p : Outline) → Tells bs o → Tells bs p → outline_text o ≡ outline_text p
-same_outline bs (Lines v) (Lines w) x y = ap lines_text (x.2 ∙ ap (lines_of 0 1) (one_tree bs x.0 y.0 x.1 y.1) ∙ sym y.2)
-same_outline bs (Lines v) (Refused r) x y = not_both bs x.0 r x.1 y
-same_outline bs (Refused r) (Lines w) x y = not_both bs y.0 r y.1 x
-same_outline bs (Refused r) (Refused q) x y = ap (λ (z : Refusal). ended (refusal_text z)) (same_refusal bs r q x y)
+same_told : (bs : List ℕ) (o p : Result Outline Refusal) → Tells bs o → Tells bs p → told_text o ≡ told_text p
+same_told bs (Ok v) (Ok w) x y = ap lines_text (x.2 ∙ ap (lines_of 0 1) (one_tree bs x.0 y.0 x.1 y.1) ∙ sym y.2)
+same_told bs (Ok v) (Err r) x y = not_both bs x.0 r x.1 y
+same_told bs (Err r) (Ok w) x y = not_both bs y.0 r y.1 x
+same_told bs (Err r) (Err q) x y = ap (λ (z : Refusal). ended (refusal_text z)) (same_refusal bs r q x y)
 
 -- a file has one text
 pub one_text : (bs text other : List ℕ) → TextOf bs text → TextOf bs other → text ≡ other
-one_text bs text other x y = x.2 ∙ same_outline bs x.0 y.0 x.1 y.1 ∙ sym y.2
+one_text bs text other x y = x.2 ∙ same_told bs x.0 y.0 x.1 y.1 ∙ sym y.2

@@ -1,8 +1,8 @@
 -- The text of a whole outline: what a program prints of a file.
-use Rattle.std.specs.Prelude.{◌≡◌, ℕ, List, [], ◌∷◌, ◌++◌, vec_items}
+use Rattle.std.specs.Prelude.{◌≡◌, ℕ, List, [], ◌∷◌, ◌++◌, vec_items, Ok, Err, Result}
 use Rattle.listing.specs.declared.line.Line.{Line}
 use Rattle.listing.specs.declared.outline.Outline.{Outline}
-use Rattle.listing.specs.declared.outline.Outline.TheVariants.{Lines, Refused}
+use Rattle.listing.specs.declared.refusal.Refusal.{Refusal}
 use Rattle.listing.specs.Told.{Tells}
 use Rattle.listing.specs.Words.{line_text, refusal_text}
 
@@ -15,14 +15,14 @@ abbrev pub lines_text : List Line → List ℕ
 lines_text [] = []
 lines_text (l ∷ ls) = ended (line_text l) ++ lines_text ls
 
--- an outline: its lines, or the refusal alone
-abbrev pub outline_text : Outline → List ℕ
-outline_text (Lines lines) = lines_text (vec_items lines)
-outline_text (Refused r) = ended (refusal_text r)
+-- what is told: the lines of an outline, or the refusal alone
+abbrev pub told_text : Result Outline Refusal → List ℕ
+told_text (Ok outline) = lines_text (vec_items outline.lines)
+told_text (Err r) = ended (refusal_text r)
 
 -- the text that is printed of a file
 abbrev pub TextOf : List ℕ → List ℕ → Type 0
-TextOf bs text = (o : Outline) × Tells bs o × (text ≡ outline_text o)
+TextOf bs text = (told : Result Outline Refusal) × Tells bs told × (text ≡ told_text told)
 
 -- a file has one text
 abbrev pub OneText : Type 0

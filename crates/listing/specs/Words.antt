@@ -32,15 +32,8 @@ line_text l = phrase (
     ∷ codes " header " ∷ decimal l.header
     ∷ codes " contents " ∷ decimal l.contents ∷ [])
 
--- the number, place and cause of a refusal; place and cause are 0 where there is none
-abbrev pub parts_of : Refusal → ℕ × ℕ × ℕ
-parts_of Length = (1, 0, 0)
-parts_of (Element f) = (2, f.place, cause_number f.cause)
-parts_of (Surplus n) = (3, n, 0)
-
--- a refusal, on one line
+-- a refusal, on one line: its number, place and cause; place and cause are 0 where there is none
 abbrev pub refusal_text : Refusal → List ℕ
-refusal_text r = phrase (
-    codes "refused " ∷ decimal (parts_of r).0
-    ∷ codes " place " ∷ decimal (parts_of r).1
-    ∷ codes " cause " ∷ decimal (parts_of r).2 ∷ [])
+refusal_text Length = codes "refused 1 place 0 cause 0"
+refusal_text (Element f) = phrase (codes "refused 2 place " ∷ decimal f.place ∷ codes " cause " ∷ decimal (cause_number f.cause) ∷ [])
+refusal_text (Surplus n) = phrase (codes "refused 3 place " ∷ decimal n ∷ codes " cause 0" ∷ [])

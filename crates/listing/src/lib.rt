@@ -6,9 +6,8 @@ mod laws;
 mod line;
 mod outline;
 mod refusal;
-mod words;
 
 pub use laws::laws_hold;
 pub use line::Line;
-pub use outline::{Outline, make_outline, tell_outline};
+pub use outline::{Outline, OutlineError, make_outline, tell_outline};
 pub use refusal::Refusal;

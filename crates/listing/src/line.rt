@@ -2,7 +2,6 @@
 ghost use Rattle.std.specs.Prelude.{Some};
 ghost use Rattle.listing.specs.Words.{line_text};
 
-use super::words::{HexByte, Indent};
 use std::fmt;
 
 /// An element as an outline tells it.
@@ -24,18 +23,18 @@ impl fmt::Display for Line {
     ghost output = { λ l. Some (line_text l) };
 
     fn fmt<W: fmt::Write>(&self, f: &mut fmt::Formatter<W>) -> fmt::Result {
-        let indent = Indent(self.level.saturating_sub(1));
-        let hex = HexByte(self.tag);
         let Line {
             offset,
             level,
-            tag: _,
+            tag,
             header,
             contents,
         } = *self;
+        let indent = 2 * usize::from(level.saturating_sub(1));
         write!(
             f,
-            "{indent}{offset}: level {level} tag {hex} header {header} contents {contents}"
+            "{:indent$}{offset}: level {level} tag {tag:02X} header {header} contents {contents}",
+            ""
         )
     }
 }

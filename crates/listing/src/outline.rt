@@ -1,13 +1,14 @@
 //! The outline of a file.
-ghost use Rattle.std.specs.Prelude.{◌≡◌, IfOk, Some, string_bytes, MatchResult};
-ghost use Rattle.der.specs.Trees.{Tree};
-ghost use Rattle.listing.specs.Told.{Tells, Whole};
-ghost use Rattle.listing.specs.Pages.{outline_text, TextOf};
+ghost use Rattle.std.specs.Prelude.{◌≡◌, IfOk, Some, string_bytes, vec_items, MatchResult};
+ghost use Rattle.listing.specs.Told.{Lists, NoOutline};
+ghost use Rattle.listing.specs.Pages.{lines_text, TextOf};
+ghost use Rattle.listing.specs.declared.outline.OutlineError.TheVariants.{Refused, Memory};
+ghost use Rattle.listing.specs.declared.refusal.Refusal.TheVariants.{Element};
 
 use super::elements::list_elements;
 use super::line::Line;
 use super::refusal::Refusal;
-use der::walk_first;
+use der::{Fault, walk_first};
 use std::alloc::{AllocError, Global};
 use std::fmt;
 
@@ -17,53 +18,72 @@ const LONGEST: usize = 65_535;
 /// How many levels of elements a file may have.
 const LEVELS: u8 = 32;
 
-/// The lines of a file, one for each element in reading order, or why it is refused.
+/// The lines of a file, one for each element in reading order.
 #[derive(Drop)]
-pub enum Outline {
-    Lines(Vec<Line>),
+pub struct Outline {
+    pub lines: Vec<Line>,
+}
+
+/// Why there is no outline.
+#[derive(Drop)]
+pub enum OutlineError {
+    /// The file is refused.
     Refused(Refusal),
+    /// Memory is short.
+    Memory(AllocError),
+}
+
+impl From<Fault> for OutlineError {
+    ghost from_gives = { λ fault error. error ≡ Refused (Element fault) };
+
+    fn from(fault: Fault) -> OutlineError {
+        OutlineError::Refused(Refusal::Element(fault))
+    }
+}
+
+impl From<AllocError> for OutlineError {
+    ghost from_gives = { λ short error. error ≡ Memory short };
+
+    fn from(short: AllocError) -> OutlineError {
+        OutlineError::Memory(short)
+    }
 }
 
 /// The outline of a file. Want of memory is told of a whole file only.
-pub fn make_outline(heap: Global, bytes: &[u8]) -> Result<Outline, AllocError>
-    ensures { MatchResult result (Tells bytes.now) (λ _. (t : Tree) × Whole bytes.now t) }
+pub fn make_outline(heap: Global, bytes: &[u8]) -> Result<Outline, OutlineError>
+    ensures { MatchResult result (Lists bytes.now) (NoOutline bytes.now) }
 {
     if bytes.is_empty() || bytes.len() > LONGEST {
-        return Ok(Outline::Refused(Refusal::Length));
+        return Err(OutlineError::Refused(Refusal::Length));
     }
-    match walk_first(bytes, LEVELS) {
-        Err(fault) => Ok(Outline::Refused(Refusal::Element(fault))),
-        Ok(end) => {
-            if end < bytes.len() {
-                return Ok(Outline::Refused(Refusal::Surplus(end)));
-            }
-            let mut lines = Vec::new(heap);
-            list_elements(&mut lines, bytes, 0, 1)?;
-            Ok(Outline::Lines(lines))
-        }
+    let end = walk_first(bytes, LEVELS)?;
+    if end < bytes.len() {
+        return Err(OutlineError::Refused(Refusal::Surplus(end)));
     }
+    let mut lines = Vec::new(heap);
+    list_elements(&mut lines, bytes, 0, 1)?;
+    Ok(Outline { lines })
 }
 
-/// The text of the outline of a file, or want of memory.
+/// The text of the outline of a file, or why it is refused; or want of memory.
 pub fn tell_outline(heap: Global, bytes: &[u8]) -> Result<String, AllocError>
     ensures { IfOk result (λ text. TextOf bytes.now (string_bytes text)) }
 {
-    make_outline(heap, bytes)?.to_string(heap)
+    match make_outline(heap, bytes) {
+        Ok(outline) => outline.to_string(heap),
+        Err(OutlineError::Refused(refusal)) => format!(in heap; "{refusal}\n"),
+        Err(OutlineError::Memory(short)) => Err(short),
+    }
 }
 
-/// Each line, or the refusal, with a line end after it.
+/// Each line, with a line end after it.
 impl fmt::Display for Outline {
-    ghost output = { λ o. Some (outline_text o) };
+    ghost output = { λ o. Some (lines_text (vec_items o.lines)) };
 
     fn fmt<W: fmt::Write>(&self, f: &mut fmt::Formatter<W>) -> fmt::Result {
-        match self {
-            Outline::Lines(lines) => {
-                for line in lines.as_slice() {
-                    f.writeln(line)?;
-                }
-                Ok(())
-            }
-            Outline::Refused(refusal) => f.writeln(refusal),
+        for line in self.lines.as_slice() {
+            f.writeln(line)?;
         }
+        Ok(())
     }
 }

@@ -1,6 +1,6 @@
 //! Why a file has no outline.
-ghost use Rattle.std.specs.Prelude.{◌≡◌, Some};
-ghost use Rattle.listing.specs.Words.{parts_of, refusal_text};
+ghost use Rattle.std.specs.Prelude.{Some};
+ghost use Rattle.listing.specs.Words.{refusal_text};
 
 use der::Fault;
 use std::fmt;
@@ -16,25 +16,18 @@ pub enum Refusal {
     Surplus(usize),
 }
 
-impl Refusal {
-    /// Its number, the place and the cause.
-    fn parts(self) -> (u8, usize, u8)
-        ensures { result ≡ parts_of self }
-    {
-        match self {
-            Refusal::Length => (1, 0, 0),
-            Refusal::Element(fault) => (2, fault.place, fault.cause.number()),
-            Refusal::Surplus(place) => (3, place, 0),
-        }
-    }
-}
-
 /// As `refused 2 place 17 cause 5`.
 impl fmt::Display for Refusal {
     ghost output = { λ r. Some (refusal_text r) };
 
     fn fmt<W: fmt::Write>(&self, f: &mut fmt::Formatter<W>) -> fmt::Result {
-        let (number, place, cause) = self.parts();
-        write!(f, "refused {number} place {place} cause {cause}")
+        match *self {
+            Refusal::Length => f.write_str("refused 1 place 0 cause 0"),
+            Refusal::Element(Fault { place, cause }) => {
+                let cause = cause.number();
+                write!(f, "refused 2 place {place} cause {cause}")
+            }
+            Refusal::Surplus(place) => write!(f, "refused 3 place {place} cause 0"),
+        }
     }
 }

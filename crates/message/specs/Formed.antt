@@ -1,5 +1,5 @@
 -- Which bytes are a message of a form, and what is at fault with others.
-use Rattle.std.specs.Prelude.{◌≡◌, ℕ, List, ◌++◌, Some, None}
+use Rattle.std.specs.Prelude.{◌≡◌, ℕ, List, ◌++◌, Some, None, Option}
 use Rattle.der.specs.Trees.{Tree, Valid, encode}
 use Rattle.der.specs.Faults.{InElement}
 use Rattle.cms.specs.declared.located.Message.{Message}
@@ -33,13 +33,17 @@ FormedAt settings levels bytes m = (f : File) × Formed settings levels bytes f 
 abbrev pub WithinAt : Settings → ℕ → List ℕ → Message → Type 0
 WithinAt settings levels bytes m = (f : File) × Within settings levels bytes f × LiesAt m f
 
--- the bytes begin with an element, and the first break of the message is at p
-pub record BrokenAt (settings : Settings) (levels : ℕ) (bytes : List ℕ) (p : ℕ) : Type 0 where
+-- the bytes begin with an element, whose first break by these rules is at p
+pub record BreaksAt (break_of : ℕ → Tree → List ℕ → Option ℕ) (levels : ℕ) (bytes : List ℕ) (p : ℕ) : Type 0 where
   pub tree : Tree
   pub surplus : List ℕ
   pub valid : Valid tree levels
   pub bytes_are : encode tree ++ surplus ≡ bytes
-  pub first : first_break settings 0 tree surplus ≡ Some p
+  pub first : break_of 0 tree surplus ≡ Some p
+
+-- by the rules of a message
+abbrev pub BrokenAt : Settings → ℕ → List ℕ → ℕ → Type 0
+BrokenAt settings levels bytes p = BreaksAt (first_break settings) levels bytes p
 
 -- why bytes are not of the form
 abbrev pub Unformed : Settings → ℕ → List ℕ → MessageFault → Type 0

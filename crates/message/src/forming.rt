@@ -11,18 +11,8 @@ use limits::first_too_many;
 pub fn read_formed(bytes: &[u8], settings: Settings, levels: u8) -> Result<Message, MessageFault>
     ensures { MatchResult result (FormedAt settings levels bytes.now) (Unformed settings levels bytes.now) }
 {
-    if let Err(fault) = walk_first(bytes, levels) {
-        return Err(MessageFault::Element(fault));
-    }
-    let reader = Reader {
-        bytes,
-        at: 0,
-        end: bytes.len(),
-    };
-    match read_message(reader, settings) {
-        Err(place) => Err(MessageFault::Field(place)),
-        Ok(message) => Ok(message),
-    }
+    walk_first(bytes, levels)?;
+    read_message(Reader::new(bytes), settings).map_err(MessageFault::Field)
 }
 
 /// The same of a message that also keeps the limits.

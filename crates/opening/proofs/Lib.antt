@@ -1,3 +1,1 @@
-pub mod Telling
 pub mod Exact
-pub mod Opening

@@ -1,11 +1,11 @@
 -- What is answered of an accepted file.
-use Rattle.std.specs.Prelude.{◌≡◌, ℕ, List, take, Result, MatchResult}
+use Rattle.std.specs.Prelude.{◌≡◌, ℕ, List, take, Result, MatchResult, slice_get}
 use Rattle.model.specs.Files.{File}
-use Rattle.opening.specs.declared.answers.Reading.{Reading}
+use Rattle.archive.specs.declared.answers.Reading.{Reading}
+use Rattle.archive.specs.Accepted.{Fits, Accepted}
+use Rattle.archive.specs.Outcome.{Served}
 use Rattle.opening.specs.declared.refusal.Refusal.{Refusal}
-use Rattle.opening.specs.Accepted.{Fits, Accepted}
-use Rattle.opening.specs.Outcome.{Served, Refused, signer_of}
-use Rattle.opening.specs.Steps.{told_of}
+use Rattle.opening.specs.Outcome.{Refused, told_of}
 
 -- what `read` may answer
 abbrev pub Outcome : List ℕ → ℕ → ℕ → Result Reading Refusal → Type 0
@@ -15,8 +15,4 @@ Outcome buffer n k r = MatchResult r (Served buffer n k) (Refused buffer n k)
 -- it is served exactly when the signer is there, and refused with 6 when it is not
 abbrev pub Exactly : Type 0
 Exactly = (buffer : List ℕ) (n k : ℕ) (r : Result Reading Refusal) → Outcome buffer n k r → (f : File) → Fits buffer n → Accepted (take n buffer) f →
-    r ≡ told_of f (signer_of k f.signers)
-
--- bytes are those of one accepted file at most
-abbrev pub OneAccepted : Type 0
-OneAccepted = (bytes : List ℕ) (f f' : File) → Accepted bytes f → Accepted bytes f' → f ≡ f'
+    r ≡ told_of f (slice_get f.signers k)

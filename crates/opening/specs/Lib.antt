@@ -1,6 +1,3 @@
 pub mod Numbers
-pub mod Accepted
 pub mod Outcome
-pub mod Steps
 pub mod Laws
-pub mod Opened

@@ -1,16 +1,12 @@
 -- The number, place and cause of each refusal.
 use Rattle.std.specs.Prelude.{ℕ}
 use Rattle.der.specs.Causes.{cause_number}
+use Rattle.archive.specs.Numbers.{number_of as number_in, place_of as place_in, cause_of as cause_in}
 use Rattle.opening.specs.declared.refusal.Refusal.{Refusal}
-use Rattle.opening.specs.declared.refusal.Refusal.TheVariants.{Length, Element, Field, Count, Rule, NoSigner, NoList, AddedElement, AddedField, Barred, Content, NoStamp, Malformed, OtherDigest, OtherImprint, NoElement, Equal, Room}
+use Rattle.opening.specs.declared.refusal.Refusal.TheVariants.{Unread, NoList, AddedElement, AddedField, Barred, Content, NoStamp, Malformed, OtherDigest, OtherImprint, NoElement, Equal, Room}
 
 abbrev pub number_of : Refusal → ℕ
-number_of Length = 1
-number_of (Element f) = 2
-number_of (Field p) = 3
-number_of (Count p) = 4
-number_of (Rule p) = 5
-number_of NoSigner = 6
+number_of (Unread r) = number_in r
 number_of NoList = 7
 number_of (AddedElement f) = 7
 number_of (AddedField p) = 7
@@ -26,12 +22,7 @@ number_of Room = 15
 
 -- where nothing else is said, the place is 0
 abbrev pub place_of : Refusal → ℕ
-place_of Length = 0
-place_of (Element f) = f.place
-place_of (Field p) = p
-place_of (Count p) = p
-place_of (Rule p) = p
-place_of NoSigner = 0
+place_of (Unread r) = place_in r
 place_of NoList = 0
 place_of (AddedElement f) = f.place
 place_of (AddedField p) = p
@@ -47,12 +38,7 @@ place_of Room = 0
 
 -- and so is the cause
 abbrev pub cause_of : Refusal → ℕ
-cause_of Length = 0
-cause_of (Element f) = cause_number f.cause
-cause_of (Field p) = 0
-cause_of (Count p) = 0
-cause_of (Rule p) = 0
-cause_of NoSigner = 0
+cause_of (Unread r) = cause_in r
 cause_of NoList = 0
 cause_of (AddedElement f) = cause_number f.cause
 cause_of (AddedField p) = 0

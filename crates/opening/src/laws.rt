@@ -1,5 +1,6 @@
 //! What the definitions give together.
-ghost use Rattle.opening.specs.Laws.{Exactly, OneAccepted};
+ghost use Rattle.archive.specs.Laws.{OneAccepted};
+ghost use Rattle.opening.specs.Laws.{Exactly};
 
 /// An accepted file is one, and what is answered of it is told by it.
 pub fn laws_hold() -> bool

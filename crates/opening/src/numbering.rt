@@ -10,12 +10,7 @@ impl Refusal {
         ensures { result ≡ number_of self }
     {
         match self {
-            Refusal::Length => 1,
-            Refusal::Element(_) => 2,
-            Refusal::Field(_) => 3,
-            Refusal::Count(_) => 4,
-            Refusal::Rule(_) => 5,
-            Refusal::NoSigner => 6,
+            Refusal::Unread(unread) => unread.number(),
             Refusal::NoList => 7,
             Refusal::AddedElement(_) => 7,
             Refusal::AddedField(_) => 7,
@@ -36,10 +31,10 @@ impl Refusal {
         ensures { result ≡ place_of self }
     {
         match self {
-            Refusal::Element(fault) | Refusal::AddedElement(fault) => fault.place,
-            Refusal::Field(place) | Refusal::AddedField(place) => place,
-            Refusal::Count(place) => place,
-            Refusal::Rule(place) => place,
+            Refusal::Unread(unread) => unread.place(),
+            Refusal::AddedElement(fault) => fault.place,
+            Refusal::AddedField(place) => place,
+            // The definition names each case: a new one is not passed over.
             _ => 0,
         }
     }
@@ -49,7 +44,8 @@ impl Refusal {
         ensures { result ≡ cause_of self }
     {
         match self {
-            Refusal::Element(fault) | Refusal::AddedElement(fault) => fault.cause.number(),
+            Refusal::Unread(unread) => unread.cause(),
+            Refusal::AddedElement(fault) => fault.cause.number(),
             _ => 0,
         }
     }

@@ -1,21 +1,14 @@
 //! Why a call is refused.
+ghost use Rattle.std.specs.Prelude.{◌≡◌};
+ghost use Rattle.opening.specs.declared.refusal.Refusal.TheVariants.{Unread};
+
 use der::Fault;
 
 /// The first reason, in the order of the cases.
 #[derive(Clone, Copy)]
 pub enum Refusal {
-    /// The length is 0, above 65,535, or above that of the buffer.
-    Length,
-    /// An element of the file is at fault.
-    Element(Fault),
-    /// A field is missing, wrong or surplus.
-    Field(usize),
-    /// A count passes its limit.
-    Count(usize),
-    /// A rule of the attributes is broken.
-    Rule(usize),
-    /// The signer is not there.
-    NoSigner,
+    /// The file cannot be read, or its signer is not there.
+    Unread(archive::Refusal),
     /// There is no such list to add to.
     NoList,
     /// An element of what is to be added is at fault; its place counts from the start of that.
@@ -40,4 +33,12 @@ pub enum Refusal {
     Equal,
     /// An area, a table or the buffer is too short, or a limit would be passed.
     Room,
+}
+
+impl From<archive::Refusal> for Refusal {
+    ghost from_gives = { λ unread refusal. refusal ≡ Unread unread };
+
+    fn from(unread: archive::Refusal) -> Refusal {
+        Refusal::Unread(unread)
+    }
 }

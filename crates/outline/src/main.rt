@@ -8,6 +8,7 @@ use std::io::Read;
 /// One byte more than the longest file: enough to see that a file is too long.
 const ENOUGH: u64 = 65_536;
 
+// The program `plan_form` differs in one call; a `main` for both would be a crate of its own, and longer.
 fn main(rt: HostRuntime) -> io::Result<()> {
     let mut file = Vec::new(rt.alloc());
     rt.stdin().take(ENOUGH).read_to_end(&mut file)?;

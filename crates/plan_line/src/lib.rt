@@ -2,7 +2,5 @@
 #![tactic(auto)]
 
 mod line;
-mod told;
 
-pub use line::{Line, tell_form};
-pub use told::{Told, Turned};
+pub use line::tell_form;

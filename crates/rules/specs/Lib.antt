@@ -5,3 +5,4 @@ pub mod Attributes
 pub mod Forms
 pub mod Standing
 pub mod Signers
+pub mod Letters

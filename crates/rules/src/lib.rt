@@ -5,6 +5,7 @@ mod attributes;
 mod forms;
 mod identifiers;
 mod kinds;
+mod letters;
 mod signers;
 
 pub use forms::{form_by, names_policy};

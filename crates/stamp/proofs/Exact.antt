@@ -1,13 +1,12 @@
 -- A stamp is one, and has no fault.
-use Rattle.std.proofs.Common.{◌≡◌, ℕ, ◌-◌, ◌<◌, List, [], ◌∷◌, length, Some, None, Option, sym, refl, ap, ◌∙◌, subst, arith}
-use Rattle.std.proofs.lemmas.List.{append-nil, take_all}
-use Rattle.der.specs.Trees.{Tree, none, Starts, Valid, Valids, encode}
-use Rattle.der.proofs.Unique.{no_fault_at, same_tree}
+use Rattle.std.proofs.Common.{◌≡◌, ℕ, ◌-◌, List, [], ◌∷◌, length, Some, None, Option, sym, refl, ap, ◌∙◌, subst, arith}
+use Rattle.der.specs.Trees.{none, Valid, Valids, encode}
+use Rattle.der.proofs.Unique.{no_fault_at}
 use Rattle.model.specs.Parts.{row_of, maybe, Attribute, Signer, signer_tree, unsigned_tree}
 use Rattle.model.specs.Files.{File, file_tree}
 use Rattle.message.specs.declared.fault.MessageFault.TheVariants.{Element, Field, Count}
-use Rattle.message.proofs.Exact.{one_formed}
-use Rattle.stamp_model.specs.Indexes.{Index, index_tree, index_bytes}
+use Rattle.message.proofs.Exact.{one_formed, tree_starts, no_break_there}
+use Rattle.stamp_model.specs.Indexes.{Index, index_tree}
 use Rattle.stamp_model.specs.Tokens.{Info, token_settings}
 use Rattle.stamp_model.specs.Stamps.{index_kind, carrying, Stamp}
 use Rattle.stamp_model.proofs.Telling.{signers_valid}
@@ -20,31 +19,16 @@ use Rattle.token.specs.Tokens.{IsToken}
 use Rattle.token.proofs.Exact.{token_never_both}
 use Rattle.stamp.specs.declared.parts.StampFault.TheVariants.{Token as InToken, Carried as InCarried, Index as InIndex}
 use Rattle.stamp.specs.Grammar.{carried}
-use Rattle.stamp.specs.Indexed.{WrittenAs, Misfit}
 use Rattle.stamp.specs.Stamped.{IsStamp, carried_place}
 use Rattle.stamp.specs.Laws.{NeverMisindexed, NeverBoth, NeverBurdened, OneStamp}
 use Rattle.stamp.proofs.CarriedTrees.{carried_kept}
-
-index_starts : (levels : ℕ) (bytes : List ℕ) (x : Index) → WrittenAs levels bytes x → Starts levels bytes (length bytes)
-index_starts levels bytes x k =
-    (index_tree x, k.valid, sym k.bytes_are ∙ sym (take_all (length bytes) bytes (omega arith)), omega arith, some k.bytes_are)
-  where
-    some : bytes ≡ index_bytes x → 0 < length bytes
-    some e = omega (arith, ap length e)
-
-no_misfit : (levels : ℕ) (bytes : List ℕ) (x : Index) (p : ℕ) → WrittenAs levels bytes x → Misfit levels bytes p → ⊥
-no_misfit levels bytes x p k b =
-    let s = same_tree b.tree (index_tree x) levels b.surplus [] b.valid k.valid (b.bytes_are ∙ k.bytes_are ∙ sym (append-nil (index_bytes x))) in
-    let q : index_break 0 (index_tree x) [] ≡ Some p = ap (λ (y : Tree). index_break 0 y []) (sym s.0) ∙ ap (index_break 0 b.tree) (sym s.1) ∙ b.first in
-    let n : index_break 0 (index_tree x) [] ≡ None = index_has_no_break 0 x in
-    let z : ◌≡◌ {A = ℕ} 0 1 = cc in omega arith
 
 not_both : (o : Option ℕ) (p : ℕ) → o ≡ Some p → o ≡ None → ⊥
 not_both o p a b = let z : ◌≡◌ {A = ℕ} 0 1 = cc in omega arith
 
 pub never_misindexed : NeverMisindexed
-never_misindexed levels bytes (Element fault) x u k = no_fault_at levels bytes 0 (length bytes) fault u (index_starts levels bytes x k.written)
-never_misindexed levels bytes (Field p) x u k = no_misfit levels bytes x p k.written u
+never_misindexed levels bytes (Element fault) x u k = no_fault_at levels bytes 0 (length bytes) fault u (tree_starts levels bytes (index_tree x) k.written.valid k.written.bytes_are)
+never_misindexed levels bytes (Field p) x u k = no_break_there index_break levels bytes (index_tree x) p k.written.valid k.written.bytes_are (index_has_no_break 0 x) u
 never_misindexed levels bytes (Count p) x (y, w, e) k =
     let same = one_index y x levels w.valid k.written.valid (sym w.bytes_are ∙ k.written.bytes_are) in
     not_both (first_too_many_entry_of 0 x) p (ap (first_too_many_entry_of 0) (sym same) ∙ e) ((none_too_many 0 x).1 k.shape)

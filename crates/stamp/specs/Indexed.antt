@@ -1,9 +1,10 @@
 -- Which bytes are an index, and what is at fault with others.
-use Rattle.std.specs.Prelude.{◌≡◌, ℕ, List, ◌++◌, Some}
-use Rattle.der.specs.Trees.{Tree, Valid, encode}
+use Rattle.std.specs.Prelude.{◌≡◌, ℕ, List, Some}
+use Rattle.der.specs.Trees.{Valid}
 use Rattle.der.specs.Faults.{InElement}
 use Rattle.message.specs.declared.fault.MessageFault.{MessageFault}
 use Rattle.message.specs.declared.fault.MessageFault.TheVariants.{Element, Field, Count}
+use Rattle.message.specs.Formed.{BreaksAt}
 use Rattle.stamp_model.specs.Indexes.{Index, index_tree, index_bytes, IndexShape}
 use Rattle.index.specs.declared.located.IndexParts.{IndexParts}
 use Rattle.index.specs.Grammar.{index_break}
@@ -24,13 +25,9 @@ pub record IsIndex (levels : ℕ) (bytes : List ℕ) (x : Index) : Type 0 where
 abbrev pub IndexLies : ℕ → List ℕ → IndexParts → Type 0
 IndexLies levels bytes parts = (x : Index) × IsIndex levels bytes x × (parts ≡ index_at 0 (index_tree x))
 
--- the bytes begin with an element, and the first break of the index is at p
-pub record Misfit (levels : ℕ) (bytes : List ℕ) (p : ℕ) : Type 0 where
-  pub tree : Tree
-  pub surplus : List ℕ
-  pub valid : Valid tree levels
-  pub bytes_are : encode tree ++ surplus ≡ bytes
-  pub first : index_break 0 tree surplus ≡ Some p
+-- the bytes begin with an element, whose first break as an index is at p
+abbrev pub Misfit : ℕ → List ℕ → ℕ → Type 0
+Misfit levels bytes p = BreaksAt index_break levels bytes p
 
 -- why bytes are no index
 abbrev pub NoIndex : ℕ → List ℕ → MessageFault → Type 0

@@ -8,6 +8,8 @@ use fields::{enter, expect, expect_identifier, finish, read_any};
 /// The type of the attribute that carries an index.
 const INDEX: [u8; 6] = [0x04, 0x00, 0x8d, 0x45, 0x02, 0x05];
 
+// Each layer has a function of its own: one for all would take the layer inside as a closure, with clauses, and be longer.
+
 /// The one value in its set.
 fn read_value(reader: &Reader, set: Span) -> Result<Span, usize>
     ensures { result ≡ value_in reader.now.bytes.now set }

@@ -1,4 +1,7 @@
 //! A stamp that was read, and what can be at fault with one.
+ghost use Rattle.std.specs.Prelude.{◌≡◌};
+ghost use Rattle.stamp.specs.declared.parts.StampFault.TheVariants.{Token as InToken};
+
 use der::Span;
 use index::IndexParts;
 use message::MessageFault;
@@ -21,4 +24,12 @@ pub enum StampFault {
     Carried(usize),
     /// The index, which begins at `at`; places of the fault count from there.
     Index { at: usize, fault: MessageFault },
+}
+
+impl From<TokenFault> for StampFault {
+    ghost from_gives = { λ fault e. e ≡ InToken fault };
+
+    fn from(fault: TokenFault) -> StampFault {
+        StampFault::Token(fault)
+    }
 }

@@ -18,20 +18,15 @@ const INDEX_LEVELS: u8 = 16;
 pub fn read_stamp(token: &[u8]) -> Result<StampParts, StampFault>
     ensures { MatchResult result (StampAt token.now) (NoStamp token.now) }
 {
-    let parts = match read_token(token, TOKEN_LEVELS) {
-        Err(fault) => return Err(StampFault::Token(fault)),
-        Ok(parts) => parts,
-    };
+    let parts = read_token(token, TOKEN_LEVELS)?;
     let behind = Reader {
         bytes: token,
         at: parts.signer.signature.end,
         end: parts.signer.whole.end,
     };
-    let span = match read_carried(behind) {
-        Err(place) => return Err(StampFault::Carried(place)),
-        Ok(span) => span,
-    };
+    let span = read_carried(behind).map_err(StampFault::Carried)?;
     let index = Element { bytes: token, span };
+    // A match: with `map_err` the closure that adds the place would need a clause of its own.
     match read_index_bytes(index.whole(), INDEX_LEVELS) {
         Err(fault) => Err(StampFault::Index {
             at: span.start,
@@ -49,10 +44,7 @@ pub fn read_stamp(token: &[u8]) -> Result<StampParts, StampFault>
 pub fn read_bare_token(token: &[u8]) -> Result<TokenParts, StampFault>
     ensures { MatchResult result (BareAt token.now) (NotBare token.now) }
 {
-    let parts = match read_token(token, TOKEN_LEVELS) {
-        Err(fault) => return Err(StampFault::Token(fault)),
-        Ok(parts) => parts,
-    };
+    let parts = read_token(token, TOKEN_LEVELS)?;
     match parts.signer.unsigned {
         Some(unsigned) => Err(StampFault::Carried(unsigned.field.start)),
         None => Ok(parts),

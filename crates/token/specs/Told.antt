@@ -1,9 +1,10 @@
 -- Which bytes tell something as a token's contents do, and what is at fault with others.
-use Rattle.std.specs.Prelude.{◌≡◌, ℕ, List, ◌++◌, Some}
-use Rattle.der.specs.Trees.{Tree, Valid, encode}
+use Rattle.std.specs.Prelude.{◌≡◌, ℕ, List}
+use Rattle.der.specs.Trees.{Valid, encode}
 use Rattle.der.specs.Faults.{InElement}
 use Rattle.message.specs.declared.fault.MessageFault.{MessageFault}
 use Rattle.message.specs.declared.fault.MessageFault.TheVariants.{Element, Field, Count}
+use Rattle.message.specs.Formed.{BreaksAt}
 use Rattle.stamp_model.specs.Tokens.{Info, info_tree}
 use Rattle.token.specs.declared.located.InfoParts.{InfoParts}
 use Rattle.token.specs.Grammar.{first_info_break}
@@ -18,13 +19,9 @@ pub record Tells (bytes : List ℕ) (i : Info) : Type 0 where
 abbrev pub ToldAt : List ℕ → InfoParts → Type 0
 ToldAt bytes parts = (i : Info) × Tells bytes i × (parts ≡ info_at 0 (info_tree i))
 
--- the bytes begin with an element, and the first break is at p
-pub record Misfit (bytes : List ℕ) (p : ℕ) : Type 0 where
-  pub tree : Tree
-  pub surplus : List ℕ
-  pub valid : Valid tree 32
-  pub bytes_are : encode tree ++ surplus ≡ bytes
-  pub first : first_info_break 0 tree surplus ≡ Some p
+-- the bytes begin with an element, whose first break is at p
+abbrev pub Misfit : List ℕ → ℕ → Type 0
+Misfit bytes p = BreaksAt first_info_break 32 bytes p
 
 -- why bytes tell nothing
 abbrev pub Untold : List ℕ → MessageFault → Type 0

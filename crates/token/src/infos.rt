@@ -62,20 +62,12 @@ fn read_parts(reader: Reader) -> Result<InfoParts, usize>
     Ok(info)
 }
 
+// Walked and read as `message::read_formed` does: a function for both would take the reading with its clauses, and be longer.
+
 /// What the contents of a token's octet string tell, walked from level 1; or what is at fault, from their start.
 pub fn read_info(contents: &[u8]) -> Result<InfoParts, MessageFault>
     ensures { MatchResult result (ToldAt contents.now) (Untold contents.now) }
 {
-    if let Err(fault) = walk_first(contents, LEVELS) {
-        return Err(MessageFault::Element(fault));
-    }
-    let reader = Reader {
-        bytes: contents,
-        at: 0,
-        end: contents.len(),
-    };
-    match read_parts(reader) {
-        Err(place) => Err(MessageFault::Field(place)),
-        Ok(info) => Ok(info),
-    }
+    walk_first(contents, LEVELS)?;
+    read_parts(Reader::new(contents)).map_err(MessageFault::Field)
 }

@@ -1,4 +1,7 @@
 //! A token that was read, and what can be at fault with one.
+ghost use Rattle.std.specs.Prelude.{◌≡◌};
+ghost use Rattle.token.specs.declared.parts.TokenFault.TheVariants.{Message as InMessage};
+
 use crate::located::InfoParts;
 use cms::{Message, Signer};
 use der::Span;
@@ -20,4 +23,12 @@ pub enum TokenFault {
     Message(MessageFault),
     /// The contents of its octet string, which begin at `at`; places of the fault count from there.
     Info { at: usize, fault: MessageFault },
+}
+
+impl From<MessageFault> for TokenFault {
+    ghost from_gives = { λ fault e. e ≡ InMessage fault };
+
+    fn from(fault: MessageFault) -> TokenFault {
+        TokenFault::Message(fault)
+    }
 }

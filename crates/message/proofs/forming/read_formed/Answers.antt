@@ -1,27 +1,21 @@
-use Rattle.std.proofs.Common.{drop, sym, ◌∙◌, arith}
-use Rattle.message.proofs.Made.{whole_part, split_file, formed_at}
+use Rattle.std.proofs.Common.{sym, ap, ◌∙◌, subst}
+use Rattle.fields.specs.Reads.{broke}
+use Rattle.cms.specs.Grammar.{first_break}
+use Rattle.cms.specs.Places.{message_at}
+use Rattle.message.specs.declared.fault.MessageFault.{MessageFault}
+use Rattle.message.specs.Formed.{FormedAt, Unformed}
+use Rattle.message.proofs.Made.{mapped_err, break_read, place_read, breaks_at, formed_at}
 use Rattle.message.proofs.forming.read_formed.Goals as goal
 
-pub returns-in-Err-read_message : goal.returns-in-Err-read_message
-returns-in-Err-read_message c =
-    let s = c.in_default.ensures.meaning in
-    let file = c.args.bytes.now in
-    let n = c.in_default.field-0 in
-    let e = split_file c.args.levels file n s in
-    record {
-      tree = s.0;
-      surplus = drop n file;
-      valid = s.1;
-      bytes_are = e ∙ whole_part file;
-      first = sym (c.in-Err-read_message.ensures.meaning s.0 (drop n file) c.args.levels s.1 (omega arith) e);
-    }
-
-pub returns-in-Ok : goal.returns-in-Ok
-returns-in-Ok c =
-    let s = c.in_default.ensures.meaning in
-    let file = c.args.bytes.now in
-    let n = c.in_default.field-0 in
-    let e = split_file c.args.levels file n s in
-    formed_at c.args.settings c.args.levels file n s c.in-Ok.message
-    (sym (c.in-Ok.ensures.meaning s.0 (drop n file) c.args.levels s.1 (omega arith) e))
-    (c.in-Ok.ensures.places s.0 (drop n file) c.args.levels s.1 (omega arith) e)
+pub returns : goal.returns
+returns c =
+    let settings = c.args.settings in
+    let levels = c.args.levels in
+    let bytes = c.args.bytes.now in
+    let n = c.in_ok-walk_first.field-0 in
+    let s = c.in_ok-walk_first.ensures.meaning in
+    let read = c.read_message in
+    let b = break_read levels bytes n s c.new.result c.new.ensures read.result (first_break settings) read.ensures.meaning in
+    mapped_err (FormedAt settings levels bytes) (Unformed settings levels bytes) read.result c.map_err.result c.map_err.ensures.cases
+    (λ m q. formed_at settings levels bytes n s m (sym b ∙ ap broke q) (place_read levels bytes n s c.new.result c.new.ensures read.result message_at read.ensures.places m q))
+    (λ p fault q f. subst (λ (x : MessageFault). Unformed settings levels bytes x) (sym f) (breaks_at (first_break settings) levels bytes n s p (sym b ∙ ap broke q)))

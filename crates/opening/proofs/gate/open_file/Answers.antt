@@ -1,9 +1,7 @@
-use Rattle.std.proofs.Common.{arith}
-use Rattle.opening.specs.Accepted.{Fits}
-use Rattle.opening.proofs.Opening.{opens_by}
+use Rattle.std.proofs.lemmas.Result.{err_from_is_err_and}
 use Rattle.opening.proofs.gate.open_file.Goals as goal
 
-pub returns : goal.returns
-returns c =
-    let fits : Fits c.args.buffer.now c.args.n = record { some = omega arith; short = omega arith; there = omega arith } in
-    opens_by c.args.buffer.now c.args.n c.accept.result fits c.accept.ensures
+pub returns-in_err-open_file : goal.returns-in_err-open_file
+returns-in_err-open_file c =
+    let p = err_from_is_err_and c.from_residual.result c.from_residual.ensures.1 in
+    rw p.1 (_, c.in_err-open_file.ensures, p.2)

@@ -1,4 +1,5 @@
-use Rattle.opening.proofs.Exact.{exactly, one_accepted}
+use Rattle.archive.proofs.Exact.{one_accepted}
+use Rattle.opening.proofs.Exact.{exactly}
 use Rattle.opening.proofs.laws.laws_hold.Goals as goal
 
 pub returns : goal.returns

@@ -1,40 +1,46 @@
-use Rattle.std.proofs.Common.{length, drop, sym, ◌∙◌, arith}
-use Rattle.message.proofs.Made.{whole_part, split_file}
+use Rattle.std.proofs.Common.{length, sym, ap, ◌∙◌, arith}
+use Rattle.std.proofs.lemmas.Result.{err_from_is_err_and}
+use Rattle.fields.specs.Reads.{broke}
+use Rattle.message.proofs.Made.{mapped_ok, mapped_from, break_read, place_read, breaks_at}
+use Rattle.index.specs.Grammar.{index_break}
+use Rattle.index.specs.Places.{index_at}
 use Rattle.index.proofs.EntryLimits.{none_too_many}
 use Rattle.stamp.proofs.Indexing.{written_as, all_of}
 use Rattle.stamp.proofs.indexes.read_index_bytes.Goals as goal
 
-pub returns-in-Err-read_index : goal.returns-in-Err-read_index
-returns-in-Err-read_index c =
-    let s = c.in_default.ensures.meaning in
+pub returns-in_err-parts : goal.returns-in_err-parts
+returns-in_err-parts c =
+    let levels = c.args.levels in
     let bytes = c.args.index.now in
-    let n = c.in_default.field-0 in
-    let e = split_file c.args.levels bytes n s in
-    record {
-      tree = s.0;
-      surplus = drop n bytes;
-      valid = s.1;
-      bytes_are = e ∙ whole_part bytes;
-      first = sym (c.in-Err-read_index.ensures.meaning s.0 (drop n bytes) c.args.levels s.1 (omega arith) e);
-    }
+    let n = c.in_ok-walk_first.field-0 in
+    let s = c.in_ok-walk_first.ensures.meaning in
+    let read = c.read_index in
+    let p = err_from_is_err_and c.from_residual-in_err-parts.result c.from_residual-in_err-parts.ensures.1 in
+    let m = mapped_from _ read.result c.map_err.result c.in_err-parts.field-0.0 c.map_err.ensures.cases c.in_err-parts.was in
+    let b = break_read levels bytes n s c.new.result c.new.ensures read.result index_break read.ensures.meaning in
+    rw (p.1, p.2, m.2) (breaks_at index_break levels bytes n s m.0 (sym b ∙ ap broke m.1))
 
 pub returns-in-Some : goal.returns-in-Some
 returns-in-Some c =
-    let s = c.in_default.ensures.meaning in
+    let levels = c.args.levels in
     let bytes = c.args.index.now in
-    let n = c.in_default.field-0 in
-    let e = split_file c.args.levels bytes n s in
-    let w = written_as c.args.levels bytes n s c.in-Ok.parts (sym (c.in-Ok.ensures.meaning s.0 (drop n bytes) c.args.levels s.1 (omega arith) e))
-    (c.in-Ok.ensures.places s.0 (drop n bytes) c.args.levels s.1 (omega arith) e) in
-    (w.0, w.1, sym (c.in-Some.ensures.meaning w.0 c.args.levels 0 (length bytes) w.1.valid (omega arith) (all_of c.args.levels bytes w.0 w.1) w.2))
+    let n = c.in_ok-walk_first.field-0 in
+    let s = c.in_ok-walk_first.ensures.meaning in
+    let read = c.read_index in
+    let q = mapped_ok _ read.result c.map_err.result c.in_ok-parts.parts c.map_err.ensures.cases c.in_ok-parts.was in
+    let b = break_read levels bytes n s c.new.result c.new.ensures read.result index_break read.ensures.meaning in
+    let w = written_as levels bytes n s c.in_ok-parts.parts (sym b ∙ ap broke q) (place_read levels bytes n s c.new.result c.new.ensures read.result index_at read.ensures.places _ q) in
+    (w.0, w.1, sym (c.in-Some.ensures.meaning w.0 levels 0 (length bytes) w.1.valid (omega arith) (all_of levels bytes w.0 w.1) w.2))
 
 pub returns-in-None : goal.returns-in-None
 returns-in-None c =
-    let s = c.in_default.ensures.meaning in
+    let levels = c.args.levels in
     let bytes = c.args.index.now in
-    let n = c.in_default.field-0 in
-    let e = split_file c.args.levels bytes n s in
-    let w = written_as c.args.levels bytes n s c.in-Ok.parts (sym (c.in-Ok.ensures.meaning s.0 (drop n bytes) c.args.levels s.1 (omega arith) e))
-    (c.in-Ok.ensures.places s.0 (drop n bytes) c.args.levels s.1 (omega arith) e) in
-    let few = sym (c.in-None.ensures.meaning w.0 c.args.levels 0 (length bytes) w.1.valid (omega arith) (all_of c.args.levels bytes w.0 w.1) w.2) in
+    let n = c.in_ok-walk_first.field-0 in
+    let s = c.in_ok-walk_first.ensures.meaning in
+    let read = c.read_index in
+    let q = mapped_ok _ read.result c.map_err.result c.in_ok-parts.parts c.map_err.ensures.cases c.in_ok-parts.was in
+    let b = break_read levels bytes n s c.new.result c.new.ensures read.result index_break read.ensures.meaning in
+    let w = written_as levels bytes n s c.in_ok-parts.parts (sym b ∙ ap broke q) (place_read levels bytes n s c.new.result c.new.ensures read.result index_at read.ensures.places _ q) in
+    let few = sym (c.in-None.ensures.meaning w.0 levels 0 (length bytes) w.1.valid (omega arith) (all_of levels bytes w.0 w.1) w.2) in
     (w.0, record { written = w.1; shape = (none_too_many 0 w.0).0 few }, w.2)
