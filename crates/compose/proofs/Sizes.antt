@@ -1,5 +1,5 @@
 -- How long nested elements are, and that headers made for a size fit.
-use Rattle.std.proofs.Common.{◌≡◌, ℕ, ◌+◌, ◌<◌, List, ◌++◌, length, Some, None, Option, sym, refl, subst, arith, MatchOption}
+use Rattle.std.proofs.Common.{◌≡◌, ℕ, ◌+◌, ◌<◌, List, ◌++◌, length, Some, None, Option, sym, refl, arith, MatchOption}
 use Rattle.std.proofs.lemmas.List.{length-append}
 use Rattle.der.specs.Trees.{length_bytes, framed}
 use Rattle.compose.specs.declared.frame.Framed.{Framed}
@@ -185,10 +185,6 @@ module _ (identifier front signer : ℕ) where
                 stamp = k.header (stamp_type ++ values_bytes i f s x) (stamp_size i f s x p q r);
                 total = stamp_total i f s x p q r;
               }
-
--- nothing is answered where one is too long
-pub at_none : {X : Type 0} (o : Option X) (P : Type 0) (Q : X → Type 0) → o ≡ None → P → MatchOption o P Q
-at_none o P Q e p = subst (λ (y : Option _). MatchOption y P Q) (sym e) p
 
 -- the signer too long makes the stamp too long
 pub inner_long : (front six index : ℕ) → InnerLong six index → TooLong front six index

@@ -5,3 +5,4 @@ pub mod Heads
 pub mod Fronts
 pub mod Taken
 pub mod Laws
+pub mod Leading

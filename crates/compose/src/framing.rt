@@ -11,9 +11,7 @@ pub(crate) fn frame(tag: u8, size: usize) -> Option<Framed>
     requires { OneByteTag tag }
     ensures { MatchOption result (65535 < size) (λ h. Framing h tag size) }
 {
-    let Some(header) = HeaderBytes::new(tag, size) else {
-        return None;
-    };
+    let header = HeaderBytes::new(tag, size)?;
     Some(Framed {
         header,
         total: header_size(size) + size,

@@ -1,8 +1,9 @@
 //! The bytes of a composed stamp, piece by piece.
 ghost use Rattle.std.specs.Prelude.{◌≡◌, ℕ, ◌<◌, List, length, MatchOption};
-ghost use Rattle.std.specs.List.{flat_map};
+ghost use Rattle.areas.specs.Pieces.{joined};
 ghost use Rattle.compose.specs.Composed.{stamp_bytes};
 ghost use Rattle.compose.specs.Heads.{HeadsAll, identifier_bytes};
+ghost use Rattle.compose.specs.Leading.{HeadsFor, composed_of};
 
 use crate::headers::Headers;
 use crate::heading::head_all;
@@ -23,8 +24,7 @@ static INDEX_TYPE: [u8; 8] = [0x06, 0x06, 0x04, 0x00, 0x8d, 0x45, 0x02, 0x05];
 
 /// The pieces of a stamp in their order; joined they are the stamp.
 pub fn pieces_of<'a>(headers: &'a Headers, leads: Leads<'a>, index: &'a [u8]) -> [&'a [u8]; 16]
-    ensures { HeadsAll headers.now leads.entry.front.now leads.entry.six.now index.now
-        → flat_map (λ p. p.now) result ≡ stamp_bytes identifier_bytes leads.entry.front.now leads.entry.six.now index.now }
+    ensures { HeadsFor headers.now leads.entry index.now → joined result ≡ composed_of leads.entry index.now }
 {
     [
         headers.outer.stamp.as_slice(),
@@ -49,8 +49,7 @@ pub fn pieces_of<'a>(headers: &'a Headers, leads: Leads<'a>, index: &'a [u8]) ->
 /// The headers of the stamp that a token and an index make; none where the stamp would pass 65,535 bytes.
 /// Nothing is written: what they say is exact before the first byte is.
 pub fn headers_for(leads: Leads, index: &[u8]) -> Option<Headers>
-    ensures { MatchOption result (65535 < length (stamp_bytes identifier_bytes leads.entry.front.now leads.entry.six.now index.now))
-        (λ h. HeadsAll h leads.entry.front.now leads.entry.six.now index.now) }
+    ensures { MatchOption result (65535 < length (composed_of leads.entry index.now)) (λ h. HeadsFor h leads.entry index.now) }
 {
     let front = leads.front.len();
     let six = leads.six.len();

@@ -1,5 +1,7 @@
 -- What is read of a file's content and a given one, where the source of the file's content is found.
-use Rattle.std.proofs.Common.{◌≡◌, ℕ, List, Some, None, Ok, Err, Option, Result, sym, refl, subst, arith}
+use Rattle.std.proofs.Common.{◌≡◌, ℕ, Bool, true, false, List, Some, None, Ok, Err, Option, Result, is_ok, sym, refl, subst, arith}
+use Rattle.std.specs.Result.{MatchResult}
+use Rattle.digest.specs.declared.refusal.Refusal.{Refusal}
 use Rattle.fields.specs.Placed.{mapped}
 use Rattle.content.specs.declared.contents.FileContent.{FileContent}
 use Rattle.content.specs.Few.{few_content}
@@ -41,3 +43,20 @@ module _ (D : List ℕ → List ℕ) (own : Option FileContent) (given : Option 
     few = λ _. digests_at bytes e;
     long = λ l. absurd (source_few own (subst TooMany (sym e) l));
   }
+
+same_ok : (x y : Option FileContent) → ◌≡◌ {A = Result (Option FileContent) ContentFault} (Ok x) (Ok y) → x ≡ y
+same_ok x y e = cc
+
+not_both : {b : Bool} → true ≡ b → false ≡ b → ⊥
+not_both p q = let z : ◌≡◌ {A = ℕ} 0 1 = cc in omega arith
+
+-- what is said of the source that was found holds of it, under another error too
+pub found_own : (r : Result (Option FileContent) Refusal) {own : Option FileContent} (P : Option FileContent → Type 0) (Q R : Refusal → Type 0) →
+    MatchResult r (λ x. ◌≡◌ {A = Result (Option FileContent) ContentFault} (Ok own) (Ok x)) R → true ≡ is_ok r → MatchResult r P Q → P own
+found_own (Ok x) {own} P Q R e v p = subst P (sym (same_ok own x e)) p
+found_own (Err d) P Q R e v p = absurd (not_both v refl)
+
+-- a source that is always found is not refused
+pub not_refused : (r : Result (Option FileContent) Refusal) (P : Option FileContent → Type 0) → MatchResult r P (λ _. ⊥) → false ≡ is_ok r → ⊥
+not_refused (Ok x) P p v = not_both refl v
+not_refused (Err d) P p v = p

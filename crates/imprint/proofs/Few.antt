@@ -1,5 +1,5 @@
 -- An imprint input of a file is far shorter than what a digest takes.
-use Rattle.std.proofs.Common.{ℕ, ◌≤◌, Bool, true, false, cond, ltb, List, [], ◌∷◌, length, arith}
+use Rattle.std.proofs.Common.{ℕ, ◌≤◌, Bool, true, false, cond, ltb, List, [], ◌∷◌, ◌++◌, length, arith}
 use Rattle.std.proofs.lemmas.List.{length-append}
 use Rattle.der.specs.Trees.{Tree, Forest, none, more, length_bytes, encode, encodes}
 use Rattle.model.specs.Parts.{maybe, unsigned_tree, six_fields}
@@ -8,7 +8,6 @@ use Rattle.message.proofs.SignerParts.{six_trees}
 use Rattle.stamp_model.specs.Covering.{six_bytes}
 use Rattle.stamp_model.proofs.Telling.{type_valid, signer_valid}
 use Rattle.imprint.specs.Laws.{NeverLong}
-use Rattle.imprint.proofs.Writing.{four_long}
 
 one_few : (a b : Bool) (x y z : List ℕ) → length x ≤ 3 → length y ≤ 3 → length z ≤ 3 → length (cond a x (cond b y z)) ≤ 3
 one_few true b x y z p q r = p
@@ -37,7 +36,9 @@ never_long f s digest index k d x =
     let six : length (six_bytes s) ≤ length (encodes (six_fields s (maybe unsigned_tree s.unsigned none))) = alone_fewer (six_trees s) (maybe unsigned_tree s.unsigned none) in
     omega (
       arith,
-      four_long (encode (content_type_tree f)) digest (six_bytes s) index,
+      length-append (encode (content_type_tree f)) (digest ++ (six_bytes s ++ index)),
+      length-append digest (six_bytes s ++ index),
+      length-append (six_bytes s) index,
       length_bytes_few (length f.content_type),
       length-append (length_bytes (length f.content_type)) f.content_type,
     )

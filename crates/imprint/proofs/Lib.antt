@@ -1,4 +1,3 @@
 pub mod Choosing
-pub mod Writing
 pub mod Finding
 pub mod Few

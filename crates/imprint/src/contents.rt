@@ -20,7 +20,7 @@ impl ContentDigest {
     pub fn as_slice(&self) -> &[u8]
         ensures { result.now ≡ digest_bytes_of self.now }
     {
-        &self.bytes[0..self.width]
+        &self.bytes[..self.width]
     }
 }
 
@@ -47,9 +47,7 @@ pub fn content_digest<G: Digest, S: Source>(
     ensures meaning { (settings : Settings) (levels : ℕ) (f : File) → Formed settings levels file.now f → LiesAt message.now f
         → Digests G.value (content_for f.content (given_bytes S.bytes given.entry)) (given_bytes S.bytes given.entry) result }
 {
-    let Ok(own) = content_of(file, message) else {
-        return Err(ContentFault::LongContent);
-    };
+    let own = content_of(file, message).map_err(|_| ContentFault::LongContent)?;
     match (own, given) {
         (None, None) => Err(ContentFault::NoContent),
         (None, Some(source)) => Ok(digest_of::<G, S>(source)),

@@ -1,13 +1,15 @@
 //! Imprint inputs: found in a file, measured, written and digested.
-ghost use Rattle.std.specs.Prelude.{◌≡◌, ◌+◌, ◌-◌, ◌*◌, ◌^◌, ◌≤◌, min, ◌++◌, length, take, drop};
+ghost use Rattle.std.specs.Prelude.{◌≡◌, ◌+◌, ◌-◌, ◌*◌, ◌^◌, ◌≤◌, min, length};
+ghost use Rattle.areas.specs.Pieces.{joined};
 ghost use Rattle.digest.specs.Took.{Digested};
 ghost use Rattle.model.specs.Files.{File};
 ghost use Rattle.model.specs.Parts.{Signer as SignerPart};
 ghost use Rattle.message.specs.Lies.{Lies, SignerLies};
 ghost use Rattle.stamp_model.specs.Covering.{input_of};
-ghost use Rattle.imprint.specs.Inputs.{bytes_of, Found, AtFront, Written};
+ghost use Rattle.imprint.specs.Inputs.{bytes_of, Found, Written};
 
 use crate::pieces::{Input, Short};
+use areas::put_all;
 use cms::{Message, Signer};
 use der::Element;
 use digest::digesting::digest_pieces;
@@ -45,38 +47,31 @@ pub fn input_of<'a>(
     }
 }
 
+impl<'a> Input<'a> {
+    /// The pieces, in their order.
+    fn pieces(&self) -> [&'a [u8]; 4]
+        ensures { joined result ≡ bytes_of self.now }
+    {
+        [
+            self.content_type,
+            self.content_digest,
+            self.fields,
+            self.index,
+        ]
+    }
+}
+
 /// How many bytes an imprint input has; the largest number stands for more.
 pub fn input_length(input: &Input) -> usize
     ensures { result ≡ min (length (bytes_of input.now)) (2 ^ 64 - 1) }
 {
+    // Four lengths in a row are as plain as a fold over the pieces, and need no closure.
     input
         .content_type
         .len()
         .saturating_add(input.content_digest.len())
         .saturating_add(input.fields.len())
         .saturating_add(input.index.len())
-}
-
-/// Copies the bytes to their place in the area. Answers the place behind them.
-fn put(area: &mut [u8], at: usize, bytes: &[u8]) -> usize
-    requires { at + length bytes.now ≤ length area.old }
-    ensures behind { result ≡ at + length bytes.now }
-    ensures bytes { area.new ≡ take at area.old ++ (bytes.now ++ drop result area.old) }
-{
-    let end = at + bytes.len();
-    area[at..end].copy_from_slice(bytes);
-    end
-}
-
-/// Copies the four pieces to the front of the area. Answers how many bytes they have.
-fn put_pieces(input: &Input, area: &mut [u8]) -> usize
-    requires { length (bytes_of input.now) ≤ length area.old }
-    ensures { AtFront (bytes_of input.now) area.old area.new result }
-{
-    let type_end = put(area, 0, input.content_type);
-    let digest_end = put(area, type_end, input.content_digest);
-    let fields_end = put(area, digest_end, input.fields);
-    put(area, fields_end, input.index)
 }
 
 /// Writes an imprint input to the front of the area. Answers its length.
@@ -87,7 +82,7 @@ pub fn write_input(input: &Input, area: &mut [u8]) -> Result<usize, Short>
     if area.len() < input_length(input) {
         return Err(Short);
     }
-    Ok(put_pieces(input, area))
+    Ok(put_all(area, 0, &input.pieces()))
 }
 
 /// Writes the digest of an imprint input to the front of the area. Refuses an area that is shorter than the digest,
@@ -95,11 +90,5 @@ pub fn write_input(input: &Input, area: &mut [u8]) -> Result<usize, Short>
 pub fn digest_input<G: Digest>(input: &Input, area: &mut [u8]) -> Result<(), Refusal>
     ensures { Digested G.value G.size (bytes_of input.now) area.old area.new result }
 {
-    let pieces = [
-        input.content_type,
-        input.content_digest,
-        input.fields,
-        input.index,
-    ];
-    digest_pieces::<G>(&pieces, area)
+    digest_pieces::<G>(&input.pieces(), area)
 }
