@@ -9,6 +9,7 @@ use crate::settings::ContentForm;
 use der::{Reader, Span};
 use fields::{
     Entries, Octets, count, enter, expect, expect_identifier, finish, read_any, read_optional,
+    read_whole,
 };
 
 /// The content type of time-stamp tokens.
@@ -63,10 +64,7 @@ fn read_any_info(reader: &Reader, whole: Span) -> Result<ContentInfo, usize>
 fn read_plain(reader: &Reader, field: Span) -> Result<Span, usize>
     ensures { result ≡ plain_in reader.now.bytes.now field }
 {
-    let mut inside = enter(reader, field);
-    let octets = expect(&mut inside, 0x04)?;
-    finish(&inside)?;
-    Ok(octets)
+    read_whole(enter(reader, field), 0x04, |_, octets| Ok(octets))
 }
 
 /// The content of a time-stamp token.
@@ -91,9 +89,9 @@ pub(crate) fn read_info(reader: &mut Reader, form: ContentForm) -> Result<Conten
     ensures { Reads (info_of form) info_stop reader.old reader.new result }
 {
     let whole = expect(reader, 0x30)?;
-    let info = match form {
-        ContentForm::Any => read_any_info(reader, whole)?,
-        ContentForm::TimeStampInfo => read_stamp_info(reader, whole)?,
-    };
-    Ok(info)
+    // The settings are data that the grammar's definitions speak of, so they choose here, and no closure is handed in.
+    match form {
+        ContentForm::Any => read_any_info(reader, whole),
+        ContentForm::TimeStampInfo => read_stamp_info(reader, whole),
+    }
 }

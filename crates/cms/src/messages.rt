@@ -13,7 +13,9 @@ use crate::located::Message;
 use crate::settings::Settings;
 use crate::signers::count_signers;
 use der::{Reader, Span};
-use fields::{Entries, enter, expect, expect_identifier, finish, read_maybe_list, read_number};
+use fields::{
+    Entries, enter, expect, expect_identifier, finish, read_maybe_list, read_number, read_whole,
+};
 
 /// The content type of signed data.
 const SIGNED_DATA: [u8; 9] = [0x2a, 0x86, 0x48, 0x86, 0xf7, 0x0d, 0x01, 0x07, 0x02];
@@ -57,11 +59,9 @@ fn read_data(reader: &Reader, whole: Span, settings: Settings) -> Result<Message
 fn read_signed_data(reader: &Reader, field: Span, settings: Settings) -> Result<Message, usize>
     ensures { result ≡ signed_data_in settings reader.now.bytes.now field }
 {
-    let mut inside = enter(reader, field);
-    let whole = expect(&mut inside, 0x30)?;
-    let message = read_data(&inside, whole, settings)?;
-    finish(&inside)?;
-    Ok(message)
+    read_whole(enter(reader, field), 0x30, |inside, whole| {
+        read_data(&inside, whole, settings)
+    })
 }
 
 /// The fields of a message.
@@ -80,11 +80,9 @@ fn read_fields(reader: &Reader, whole: Span, settings: Settings) -> Result<Messa
 fn read_parts(reader: Reader, settings: Settings) -> Result<Message, usize>
     ensures { result ≡ message_of settings reader.entry.bytes.now reader.entry.at reader.entry.end }
 {
-    let mut outside = reader;
-    let whole = expect(&mut outside, 0x30)?;
-    let message = read_fields(&outside, whole, settings)?;
-    finish(&outside)?;
-    Ok(message)
+    read_whole(reader, 0x30, |outside, whole| {
+        read_fields(&outside, whole, settings)
+    })
 }
 
 /// Where the parts lie of the message that stands from the reader's offset to its end,

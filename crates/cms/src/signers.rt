@@ -83,6 +83,7 @@ pub(crate) fn count_signers(inside: Reader, wanted: SignerCount) -> Result<usize
     ensures { result ≡ signers_in wanted inside.entry.bytes.now inside.entry.at inside.entry.end }
 {
     let mut reader = inside;
+    // As in `read_info`, the setting is data.
     match wanted {
         SignerCount::AtLeastOne => count_some::<Signers>(inside),
         SignerCount::ExactlyOne => {

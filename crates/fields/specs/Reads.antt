@@ -51,6 +51,14 @@ optional_of tag file at end = if_tagged tag (any_of file at end)
 abbrev pub finish_of : ℕ → ℕ → Result (Unit {0}) ℕ
 finish_of at end = cond (nat_lt at end) (Err at) (Ok tt)
 
+-- one element with the tag, what is read inside it, and nothing behind it
+abbrev pub whole_of : {X : Type 0} → ℕ → (List ℕ → Span → Result X ℕ) → List ℕ → ℕ → ℕ → Result X ℕ
+whole_of tag inside file at end = do
+  whole ← expect_of tag file at end
+  x ← inside file whole
+  finish_of whole.end end
+  Ok x
+
 -- an element tagged 02 of one byte
 abbrev pub byte_in : ℕ → Span → List ℕ → Result Number ℕ
 byte_in at e [] = Err at

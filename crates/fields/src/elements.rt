@@ -1,7 +1,6 @@
 //! Single elements of a message, read in turn.
-ghost use Rattle.std.specs.Prelude.{◌≡◌, ℕ, Bool, MatchResult};
-ghost use Rattle.std.specs.Str.{bytes_eq};
-ghost use Rattle.fields.specs.Reads.{Reads, FindsOptional, Tells, any_of, allowed_of, expect_of, optional_of, finish_of, number_of, named_of, span_stop, number_stop};
+ghost use Rattle.std.specs.Prelude.{◌≡◌, ℕ, Bool, List, Result, MatchResult};
+ghost use Rattle.fields.specs.Reads.{Reads, FindsOptional, Tells, whole_of, any_of, allowed_of, expect_of, optional_of, finish_of, number_of, named_of, span_stop, number_stop};
 
 use crate::located::Number;
 use der::{Element, Reader, Span};
@@ -70,6 +69,23 @@ pub fn finish(reader: &Reader) -> Result<(), usize>
     }
 }
 
+/// One element with the tag, what its fields are, and nothing behind it.
+pub fn read_whole<'a, T: Copy, F: FnOnce(Reader<'a>, Span) -> Result<T, usize>>(
+    reader: Reader<'a>,
+    tag: u8,
+    fields: F,
+) -> Result<T, usize>
+    requires { F.IsAlwaysCallable fields }
+    ensures { (inside : List ℕ → Span → Result T ℕ) → ((r : Reader) (e : Span) (x : Result T ℕ) → F.post fields r e x → x ≡ inside r.bytes.now e)
+        → result ≡ whole_of tag inside reader.entry.bytes.now reader.entry.at reader.entry.end }
+{
+    let mut outside = reader;
+    let whole = expect(&mut outside, tag)?;
+    let read = fields(outside, whole)?;
+    finish(&outside)?;
+    Ok(read)
+}
+
 /// The next element, tagged 02, of one byte.
 pub fn read_number(reader: &mut Reader) -> Result<Number, usize>
     ensures { Reads number_of number_stop reader.old reader.new result }
@@ -89,13 +105,6 @@ pub fn read_number(reader: &mut Reader) -> Result<Number, usize>
     }
 }
 
-/// Whether the bytes are the same.
-pub fn same(bytes: &[u8], other: &[u8]) -> bool
-    ensures { result ≡ bytes_eq bytes.now other.now }
-{
-    bytes == other
-}
-
 /// The next element, tagged 06, with these contents.
 pub fn expect_identifier(reader: &mut Reader, identifier: &[u8]) -> Result<Span, usize>
     ensures { Reads (named_of identifier.now) span_stop reader.old reader.new result }
@@ -106,7 +115,7 @@ pub fn expect_identifier(reader: &mut Reader, identifier: &[u8]) -> Result<Span,
         bytes: reader.bytes,
         span: element,
     };
-    if same(whole.contents(), identifier) {
+    if whole.contents() == identifier {
         Ok(element)
     } else {
         Err(at)

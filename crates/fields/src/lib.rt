@@ -12,7 +12,7 @@ mod run;
 
 pub use elements::{
     enter, expect, expect_identifier, finish, read_allowed, read_any, read_number, read_optional,
-    same,
+    read_whole,
 };
 pub use entries::{Entry, count, count_some, read_list, read_maybe_list};
 pub use kinds::{Anything, Octets};
