@@ -2,7 +2,9 @@
 use Rattle.std.specs.Prelude.{◌≡◌, ℕ, ◌≤◌, List, [], ◌∷◌, length, Some, None, Option}
 use Rattle.std.specs.List.{AllByRecursion}
 use Rattle.der.specs.Spans.{part}
+use Rattle.der.specs.declared.reader.Reader.{Reader}
 use Rattle.der.specs.declared.span.Span.{Span}
+use Rattle.fields.specs.declared.located.Entries.{Entries}
 use Rattle.der.specs.Trees.{Tree, Forest, Valids, encodes}
 use Rattle.fields.specs.Placed.{located}
 use Rattle.cms.specs.declared.located.Attribute.{Attribute as Located}
@@ -17,12 +19,20 @@ pub record Row (levels : ℕ) (file : List ℕ) (at end : ℕ) (ms : List Attrib
   pub order : at ≤ end
   pub inside : end ≤ length file
 
+-- these attributes stand from where a reader is to its end
+abbrev pub RowAt : ℕ → Reader → List Attribute → Type 0
+RowAt levels reader ms = Row levels reader.bytes.now reader.at reader.end ms
+
 -- these elements stand from `at` to `end`
 pub record Trees (levels : ℕ) (file : List ℕ) (at end : ℕ) (ts : Forest) : Type 0 where
   pub valid : Valids ts levels
   pub bytes : part file at end ≡ encodes ts
   pub order : at ≤ end
   pub inside : end ≤ length file
+
+-- these are all values of an attribute
+abbrev pub AreValues : ℕ → List ℕ → Entries → List Tree → Type 0
+AreValues levels file values vs = Trees levels file values.field.body values.field.end (row vs) × (values.count ≡ length vs)
 
 -- where the one element lies that begins at `p`
 abbrev pub single_at : ℕ → List Tree → Option Span

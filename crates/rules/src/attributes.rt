@@ -8,7 +8,7 @@ ghost use Rattle.rules.specs.Kinds.{signed_kinds, unsigned_kinds};
 ghost use Rattle.der.specs.Trees.{Tree, encode, tag_of};
 ghost use Rattle.fields.specs.Reads.{is};
 ghost use Rattle.model.specs.Parts.{row};
-ghost use Rattle.rules.specs.Standing.{Row, Trees as At, single_at, There};
+ghost use Rattle.rules.specs.Standing.{Row, Trees as At, single_at, There, RowAt, AreValues};
 
 use crate::kinds::AttributeKind;
 use cms::Attribute;
@@ -17,14 +17,14 @@ use fields::{Entries, Run};
 
 /// Whether an attribute of the type stands among those from the reader's offset to its end.
 pub(crate) fn holds(attributes: Reader, kind: AttributeKind) -> bool
-    ensures { (levels : ℕ) (ms : List Part) → Row levels attributes.entry.bytes.now attributes.entry.at attributes.entry.end ms → result ≡ Holds kind ms }
+    ensures { (levels : ℕ) (ms : List Part) → RowAt levels attributes.entry ms → result ≡ Holds kind ms }
 {
     Run::<Attribute>::of(attributes).any(|attribute| kind.names(attribute.name(attributes.bytes)))
 }
 
 /// Whether the signed attributes lack one that has to stand there.
 pub(crate) fn lacks(signed: Reader) -> bool
-    ensures { (levels : ℕ) (ms : List Part) → Row levels signed.entry.bytes.now signed.entry.at signed.entry.end ms → result ≡ Lacks ms }
+    ensures { (levels : ℕ) (ms : List Part) → RowAt levels signed.entry ms → result ≡ Lacks ms }
 {
     let certificate = holds(signed, AttributeKind::SigningCertificate)
         | holds(signed, AttributeKind::SigningCertificateV2);
@@ -62,21 +62,21 @@ fn is_one_of(kinds: &[AttributeKind], name: &[u8]) -> bool
 
 /// Whether an attribute of this kind stands a second time, if the name is the kind's.
 fn repeats(before: Reader, name: &[u8], kind: AttributeKind) -> bool
-    ensures { (levels : ℕ) (ms : List Part) → Row levels before.entry.bytes.now before.entry.at before.entry.end ms → result ≡ (names kind name.now && Holds kind ms) }
+    ensures { (levels : ℕ) (ms : List Part) → RowAt levels before.entry ms → result ≡ (names kind name.now && Holds kind ms) }
 {
     kind.names(name) & holds(before, kind)
 }
 
 /// Whether an attribute with this type stands a second time, where it may stand once.
 pub(crate) fn stands_again(before: Reader, name: &[u8]) -> bool
-    ensures { (levels : ℕ) (ms : List Part) → Row levels before.entry.bytes.now before.entry.at before.entry.end ms → result ≡ again signed_kinds ms name.now }
+    ensures { (levels : ℕ) (ms : List Part) → RowAt levels before.entry ms → result ≡ again signed_kinds ms name.now }
 {
     SIGNED_KINDS.iter().any(|kind| repeats(before, name, *kind))
 }
 
 /// Where the one value of an attribute lies; none where there are more.
 fn single_value(file: &[u8], values: Entries) -> Option<Span>
-    ensures { (levels : ℕ) (vs : List Tree) → At levels file.now values.field.body values.field.end (row vs) → values.count ≡ length vs
+    ensures { (levels : ℕ) (vs : List Tree) → AreValues levels file.now values vs
         → result ≡ single_at values.field.body vs }
 {
     if values.count != 1 {
@@ -88,7 +88,7 @@ fn single_value(file: &[u8], values: Entries) -> Option<Span>
 
 /// Whether the one value of a content-type attribute fails to be the file's content type, byte for byte.
 fn lacks_content_type(file: &[u8], values: Entries, content_type: &[u8]) -> bool
-    ensures { (levels : ℕ) (vs : List Tree) (expected : Tree) → At levels file.now values.field.body values.field.end (row vs) → values.count ≡ length vs
+    ensures { (levels : ℕ) (vs : List Tree) (expected : Tree) → AreValues levels file.now values vs
         → content_type.now ≡ encode expected → result ≡ not (one_value (is_content_type expected) vs) }
 {
     let Some(span) = single_value(file, values) else {
@@ -100,7 +100,7 @@ fn lacks_content_type(file: &[u8], values: Entries, content_type: &[u8]) -> bool
 
 /// Whether the one value of a message-digest attribute fails to be an octet string.
 fn lacks_octets(file: &[u8], values: Entries) -> bool
-    ensures { (levels : ℕ) (vs : List Tree) → At levels file.now values.field.body values.field.end (row vs) → values.count ≡ length vs
+    ensures { (levels : ℕ) (vs : List Tree) → AreValues levels file.now values vs
         → result ≡ not (one_value (λ v. is 4 (tag_of v)) vs) }
 {
     match single_value(file, values) {
@@ -129,7 +129,7 @@ fn is_faulty_signed(signed: Reader, attribute: &Attribute, content_type: &[u8]) 
 
 /// The place of the first signed attribute that breaks a rule.
 pub(crate) fn first_faulty_signed(signed: Reader, content_type: &[u8]) -> Option<usize>
-    ensures { (levels : ℕ) (ms : List Part) (expected : Tree) → Row levels signed.entry.bytes.now signed.entry.at signed.entry.end ms
+    ensures { (levels : ℕ) (ms : List Part) (expected : Tree) → RowAt levels signed.entry ms
         → content_type.now ≡ encode expected → result ≡ first_faulty (faulty_signed expected) [] signed.entry.at ms }
 {
     for attribute in Run::<Attribute>::of(signed) {
@@ -142,7 +142,7 @@ pub(crate) fn first_faulty_signed(signed: Reader, content_type: &[u8]) -> Option
 
 /// The place of the first unsigned attribute that may stand only among signed ones.
 pub(crate) fn first_misplaced(unsigned: Reader) -> Option<usize>
-    ensures { (levels : ℕ) (ms : List Part) → Row levels unsigned.entry.bytes.now unsigned.entry.at unsigned.entry.end ms
+    ensures { (levels : ℕ) (ms : List Part) → RowAt levels unsigned.entry ms
         → result ≡ first_with misplaced unsigned.entry.at ms }
 {
     Run::<Attribute>::of(unsigned)

@@ -3,7 +3,7 @@ ghost use Rattle.std.specs.Prelude.{◌≡◌, ℕ, ◌&&◌, ◌||◌, List};
 ghost use Rattle.model.specs.Parts.{Attribute as Part};
 ghost use Rattle.rules.specs.Attributes.{holds as Holds};
 ghost use Rattle.rules.specs.Forms.{form_told_by};
-ghost use Rattle.rules.specs.Standing.{Row};
+ghost use Rattle.rules.specs.Standing.{Row, RowAt};
 ghost use Rattle.rules.specs.declared.kinds.AttributeKind.TheVariants.{SignaturePolicy, CertificateReferences, RevocationReferences, CertificateValues, RevocationValues, CompleteTimeStamp, ReferencesTimeStamp};
 
 use crate::attributes::holds;
@@ -12,7 +12,7 @@ use der::Reader;
 
 /// Whether references to certificates and revocations stand among the attributes.
 fn has_references(unsigned: Reader) -> bool
-    ensures { (levels : ℕ) (ms : List Part) → Row levels unsigned.entry.bytes.now unsigned.entry.at unsigned.entry.end ms
+    ensures { (levels : ℕ) (ms : List Part) → RowAt levels unsigned.entry ms
         → result ≡ (Holds CertificateReferences ms && Holds RevocationReferences ms) }
 {
     holds(unsigned, AttributeKind::CertificateReferences)
@@ -21,7 +21,7 @@ fn has_references(unsigned: Reader) -> bool
 
 /// Whether what C refers to is stamped, or stands among the attributes itself.
 fn has_extension(unsigned: Reader) -> bool
-    ensures { (levels : ℕ) (ms : List Part) → Row levels unsigned.entry.bytes.now unsigned.entry.at unsigned.entry.end ms
+    ensures { (levels : ℕ) (ms : List Part) → RowAt levels unsigned.entry ms
         → result ≡ (Holds CompleteTimeStamp ms || (Holds ReferencesTimeStamp ms || (Holds CertificateValues ms && Holds RevocationValues ms))) }
 {
     let values = holds(unsigned, AttributeKind::CertificateValues)
@@ -32,7 +32,7 @@ fn has_extension(unsigned: Reader) -> bool
 
 /// The highest form that holds of a signer with these unsigned attributes.
 pub fn form_by(unsigned: Reader) -> Form
-    ensures { (levels : ℕ) (ms : List Part) → Row levels unsigned.entry.bytes.now unsigned.entry.at unsigned.entry.end ms → result ≡ form_told_by ms }
+    ensures { (levels : ℕ) (ms : List Part) → RowAt levels unsigned.entry ms → result ≡ form_told_by ms }
 {
     let stamped = holds(unsigned, AttributeKind::SignatureTimeStamp);
     let complete = stamped & has_references(unsigned);
@@ -52,7 +52,7 @@ pub fn form_by(unsigned: Reader) -> Form
 
 /// Whether a signer with these signed attributes names a policy.
 pub fn names_policy(signed: Reader) -> bool
-    ensures { (levels : ℕ) (ms : List Part) → Row levels signed.entry.bytes.now signed.entry.at signed.entry.end ms → result ≡ Holds SignaturePolicy ms }
+    ensures { (levels : ℕ) (ms : List Part) → RowAt levels signed.entry ms → result ≡ Holds SignaturePolicy ms }
 {
     holds(signed, AttributeKind::SignaturePolicy)
 }
