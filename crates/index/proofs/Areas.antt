@@ -3,6 +3,8 @@ use Rattle.std.proofs.Common.{◌≡◌, ℕ, ◌+◌, ◌-◌, ◌<◌, ◌≤�
 use borrow.Rule.Slice.PartMut.{put_mid}
 use Rattle.std.proofs.lemmas.List.{append_assoc, append-nil, drop-drop, length-append, take-append-drop, take_more_set}
 use Rattle.std.proofs.lemmas.Slice.{take-put_mid, drop-put_mid}
+use Rattle.areas.specs.Overlays.{overlay}
+use Rattle.areas.proofs.Overlays.{overlay_front, overlay_rest}
 use Rattle.index.specs.Puts.{Put, Written}
 
 module _ {X : Type 0} where
@@ -50,3 +52,13 @@ module _ {X : Type 0} where
     counted = omega (arith, p.ends);
     front = sym (take-append-drop end is) ∙ ap (λ (x : List X). x ++ drop end is) p.front ∙ ap (λ (x : List X). new ++ x) p.rest;
   }
+
+-- what is put over an area, in words of the area
+pub overlay_put : (was is new : List ℕ) (at end : ℕ) → end ≡ at + length new → is ≡ overlay at new was → at + length new ≤ length was → Put was is at new end
+overlay_put was is new at end e q l =
+    let within : at ≤ length was = omega arith in
+    record {
+      ends = e;
+      front = ap (λ (n : ℕ). take n is) e ∙ ap (take (at + length new)) q ∙ overlay_front at new was within;
+      rest = ap (λ (n : ℕ). drop n is) e ∙ ap (drop (at + length new)) q ∙ overlay_rest at new was within ∙ ap (λ (n : ℕ). drop n was) (sym e);
+    }

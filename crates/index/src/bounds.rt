@@ -9,10 +9,7 @@ ghost use Rattle.index.specs.Places.{index_at};
 
 use crate::located::IndexParts;
 use fields::Entries;
-use limits::too_many;
-
-/// The most entries of a list.
-const MOST_ENTRIES: usize = 64;
+use limits::{MOST_ENTRIES, too_many};
 
 /// The place of the first entry too many of a list.
 fn find_in_list(file: &[u8], entries: Entries) -> Option<usize>

@@ -10,7 +10,7 @@ ghost use Rattle.index.specs.Records.{algorithm_stop, has_algorithm_of, maybe_al
 use crate::algorithms::read_algorithm;
 use crate::located::{AlgorithmParts, IndexParts};
 use der::{Reader, Span};
-use fields::{Octets, enter, expect, finish, read_list};
+use fields::{Octets, enter, expect, finish, read_list, read_whole};
 
 /// Whether the next element stands for an algorithm: it is tagged 30, and its first element 06.
 fn has_algorithm(reader: &Reader) -> bool
@@ -57,11 +57,7 @@ fn read_fields(reader: &Reader, whole: Span) -> Result<IndexParts, usize>
 fn read_parts(reader: Reader) -> Result<IndexParts, usize>
     ensures { result ≡ index_parts_of reader.entry.bytes.now reader.entry.at reader.entry.end }
 {
-    let mut outside = reader;
-    let whole = expect(&mut outside, 0x30)?;
-    let parts = read_fields(&outside, whole)?;
-    finish(&outside)?;
-    Ok(parts)
+    read_whole(reader, 0x30, |outside, whole| read_fields(&outside, whole))
 }
 
 /// Where the parts lie of the index that stands from the reader's offset to its end,

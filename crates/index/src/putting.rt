@@ -16,9 +16,7 @@ pub(crate) fn put(area: &mut [u8], at: usize, bytes: &[u8]) -> usize
     requires { at + length bytes.now ≤ length area.old }
     ensures { Put area.old area.new at bytes.now result }
 {
-    let end = at + bytes.len();
-    area[at..end].copy_from_slice(bytes);
-    end
+    areas::put(area, at, bytes)
 }
 
 /// Puts the header of an element with so many bytes of contents.

@@ -10,4 +10,4 @@ mod lists;
 
 pub use counted::too_many;
 pub use laws::laws_hold;
-pub use lists::first_too_many;
+pub use lists::{MOST_ENTRIES, first_too_many};

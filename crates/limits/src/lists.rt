@@ -13,7 +13,7 @@ use cms::{Message, Signer, read_signer};
 use fields::Entries;
 
 /// The most entries of a list, other than that of the signers.
-const MOST_ENTRIES: usize = 64;
+pub const MOST_ENTRIES: usize = 64;
 
 /// The most signers of a message.
 const MOST_SIGNERS: usize = 8;
