@@ -1,5 +1,5 @@
 -- Opening a file, and one of its signers.
-use Rattle.std.proofs.Common.{◌≡◌, ℕ, zero, suc, ◌+◌, ◌-◌, List, [], ◌∷◌, take, Some, None, Ok, Err, Result, sym, refl, ap, ◌∙◌, subst, arith, MatchResult}
+use Rattle.std.proofs.Common.{◌≡◌, ℕ, zero, suc, ◌+◌, ◌-◌, List, [], ◌∷◌, take, Some, None, sym, refl, ap, ◌∙◌, subst, arith}
 use Rattle.std.specs.List.{slice_get}
 use Rattle.der.specs.declared.reader.Reader.{Reader}
 use Rattle.fields.specs.Rules.{head_size, body_size}
@@ -11,48 +11,17 @@ use Rattle.model.specs.Parts.{row_of, Signer, signer_tree}
 use Rattle.model.specs.Files.{File}
 use Rattle.rules.specs.Signers.{Signers, signer_number}
 use Rattle.rules.proofs.SignerReading.{other_signers}
-use Rattle.message.specs.declared.fault.MessageFault.{MessageFault}
-use Rattle.message.specs.declared.fault.MessageFault.TheVariants.{Element as Misformed, Field as Misfield, Count as Overfull}
-use Rattle.message.specs.Formed.{Faulty, LiesAt}
+use Rattle.message.specs.Formed.{LiesAt}
 use Rattle.message.specs.Lies.{SignerLies}
 use Rattle.message.proofs.Lying.{file_lies}
-use Rattle.archive.specs.declared.refusal.Refusal.{Refusal}
-use Rattle.archive.specs.declared.refusal.Refusal.TheVariants.{Length, Element, Field, Count, Rule, NoSigner}
-use Rattle.archive.specs.Accepted.{file_settings, Fits, Accepted}
-use Rattle.archive.specs.Steps.{refusal_of, AcceptedAt, RefusedFile}
-use Rattle.archive.specs.Opened.{Opens, OpensAt, Shut, SignerOpened}
+use Rattle.archive.specs.declared.refusal.Refusal.TheVariants.{NoSigner}
+use Rattle.archive.specs.Accepted.{file_settings}
+use Rattle.archive.specs.Opened.{Opens, SignerOpened}
 use Rattle.archive.specs.Outcome.{Refused}
-
--- what is at fault with the form refuses the file
-pub refused_form : (file : List ℕ) (fault : MessageFault) → Faulty file_settings 32 file fault → RefusedFile file (refusal_of fault)
-refused_form file (Misformed fault) u = u
-refused_form file (Misfield p) u = u
-refused_form file (Overfull p) u = u
 
 -- `&buffer[0..n]`
 pub front_is : (buffer : List ℕ) (n : ℕ) → take (n - 0) buffer ≡ take n buffer
 front_is buffer n = ap (λ (m : ℕ). take m buffer) (let e : n - 0 ≡ n = omega arith in e)
-
-shut_by : (buffer : List ℕ) (n : ℕ) (e : Refusal) → Fits buffer n → RefusedFile (take n buffer) e → Shut buffer n e
-shut_by buffer n Length h r = absurd r
-shut_by buffer n (Element fault) h r = (h, r)
-shut_by buffer n (Field p) h r = (h, r)
-shut_by buffer n (Count p) h r = (h, r)
-shut_by buffer n (Rule p) h r = (h, r)
-shut_by buffer n NoSigner h r = absurd r
-
-pub opens_by : (buffer : List ℕ) (n : ℕ) (r : Result Message Refusal) → Fits buffer n → MatchResult r (AcceptedAt (take (n - 0) buffer)) (RefusedFile (take (n - 0) buffer)) → MatchResult r (OpensAt buffer n) (Shut buffer n)
-opens_by buffer n (Ok m) h k = (k.0, record { fits = h; accepted = subst (λ (x : List ℕ). Accepted x k.0) (front_is buffer n) k.1 }, k.2)
-opens_by buffer n (Err e) h k = shut_by buffer n e h (subst (λ (x : List ℕ). RefusedFile x e) (front_is buffer n) k)
-
--- what shuts the file refuses the call
-pub refused_by : (buffer : List ℕ) (n k : ℕ) (e : Refusal) → Shut buffer n e → Refused buffer n k e
-refused_by buffer n k Length r = r
-refused_by buffer n k (Element fault) r = r
-refused_by buffer n k (Field p) r = r
-refused_by buffer n k (Count p) r = r
-refused_by buffer n k (Rule p) r = r
-refused_by buffer n k NoSigner r = absurd r
 
 signers_moved : (levels : ℕ) (bs bs' : List ℕ) (at at' end end' : ℕ) (ss : List Signer) → bs ≡ bs' → at ≡ at' → end ≡ end' → Signers levels bs at end ss → Signers levels bs' at' end' ss
 signers_moved levels bs bs' at at' end end' ss p q e r =

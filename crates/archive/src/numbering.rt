@@ -38,6 +38,7 @@ impl Refusal {
     {
         match self {
             Refusal::Element(fault) => fault.cause.number(),
+            // The definition names each case: a new one is not passed over.
             _ => 0,
         }
     }

@@ -12,7 +12,7 @@ use Rattle.listing.specs.Listed.{lines_of}
 use Rattle.listing.specs.Told.{Whole, Refuses, Tells}
 use Rattle.listing.specs.Words.{refusal_text}
 use Rattle.listing.specs.Pages.{ended, lines_text, told_text, TextOf}
-use Rattle.listing.proofs.Turns.{Begins, header_is, parts_of_lem}
+use Rattle.listing.proofs.Headers.{Begins, header_is, parts_of_lem}
 
 -- the bytes begin with the tree
 starts_with : (bs : List ℕ) (n : ℕ) (s : Starts 32 bs n) → bs ≡ encode s.0 ++ drop n bs

@@ -1,44 +1,43 @@
 //! The lines of elements back to back.
-ghost use Rattle.std.specs.Prelude.{◌≡◌, ℕ, ◌+◌, ◌-◌, ◌^◌, ◌<◌, ◌≤◌, ◌++◌, length, OnOk};
+ghost use Rattle.std.specs.Prelude.{◌≡◌, ℕ, ◌-◌, ◌≤◌, ◌++◌, length, OnOk};
+ghost use Rattle.der.specs.Spans.{part};
 ghost use Rattle.der.specs.Trees.{Forest, Forms, Valids, encodes};
 ghost use Rattle.listing.specs.Listed.{lines_in};
 
 use super::line::Line;
-use der::{Header, read_header};
+use der::Reader;
 use std::alloc::AllocError;
 
-/// Appends the lines of whole elements on one level, the first of which stands at `place`; refuses for want of memory.
+/// Appends the lines of the whole elements on one level that the reader has; refuses for want of memory.
 pub(crate) fn list_elements(
     lines: &mut Vec<Line>,
-    bytes: &[u8],
-    place: usize,
+    elements: Reader,
     level: u8,
 ) -> Result<(), AllocError>
-    requires fits { place + length bytes.now < 2 ^ 64 }
+    requires order { elements.at ≤ elements.end }
+    requires within { elements.end ≤ length elements.bytes.now }
     requires deep { level ≤ 33 }
-    requires forms { Forms (33 - level) bytes.now }
-    ensures { OnOk result ((ts : Forest) → Valids ts (33 - level) → encodes ts ≡ bytes.now →
-        lines.new.items ≡ lines.old.items ++ lines_in place level ts) }
+    requires forms { Forms (33 - level) (part elements.bytes.now elements.at elements.end) }
+    ensures { OnOk result ((ts : Forest) → Valids ts (33 - level) → encodes ts ≡ part elements.entry.bytes.now elements.entry.at elements.entry.end
+        → lines.new.items ≡ lines.old.items ++ lines_in elements.entry.at level ts) }
 {
-    let mut at = 0;
-    while at < bytes.len() {
-        // Whole elements go on with a whole element, so it has a header.
-        let Ok(Header { tag, head, size }) = read_header(&bytes[at..]) else {
+    let mut reader = elements;
+    while !reader.is_empty() {
+        // Whole elements go on with a whole element.
+        let Ok(element) = reader.next() else {
             unreachable()
         };
+        let span = element.span;
         lines.push(Line {
-            offset: place + at,
+            offset: span.start,
             level,
-            tag,
-            header: head,
-            contents: size,
+            tag: span.tag,
+            header: span.body - span.start,
+            contents: span.end - span.body,
         })?;
-        let body = at + head;
-        let end = body + size;
-        if tag & 0x20 != 0 {
-            list_elements(lines, &bytes[body..end], place + body, level + 1)?;
+        if span.tag & 0x20 != 0 {
+            list_elements(lines, element.enter(), level + 1)?;
         }
-        at = end;
     }
     Ok(())
 }

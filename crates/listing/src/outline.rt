@@ -8,7 +8,7 @@ ghost use Rattle.listing.specs.declared.refusal.Refusal.TheVariants.{Element};
 use super::elements::list_elements;
 use super::line::Line;
 use super::refusal::Refusal;
-use der::{Fault, walk_first};
+use der::{Fault, Reader, walk_first};
 use std::alloc::{AllocError, Global};
 use std::fmt;
 
@@ -61,7 +61,7 @@ pub fn make_outline(heap: Global, bytes: &[u8]) -> Result<Outline, OutlineError>
         return Err(OutlineError::Refused(Refusal::Surplus(end)));
     }
     let mut lines = Vec::new(heap);
-    list_elements(&mut lines, bytes, 0, 1)?;
+    list_elements(&mut lines, Reader::new(bytes), 1)?;
     Ok(Outline { lines })
 }
 

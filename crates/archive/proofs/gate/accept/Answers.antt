@@ -1,14 +1,7 @@
 use Rattle.std.proofs.Common.{sym}
-use Rattle.std.proofs.lemmas.Result.{err_from_is_err_and}
 use Rattle.message.proofs.Lying.{file_lies}
 use Rattle.archive.specs.Accepted.{file_settings}
-use Rattle.archive.proofs.Opening.{refused_form}
 use Rattle.archive.proofs.gate.accept.Goals as goal
-
-pub returns-in_err-message : goal.returns-in_err-message
-returns-in_err-message c =
-    let p = err_from_is_err_and c.from_residual.result c.from_residual.ensures.1 in
-    rw (p.1, p.2) (refused_form c.args.file.now _ c.in_err-message.ensures)
 
 pub returns-in-Some : goal.returns-in-Some
 returns-in-Some c =

@@ -1,15 +1,8 @@
-use Rattle.std.proofs.Common.{◌≡◌, Some, None, sym, ◌∙◌, subst, arith}
+use Rattle.std.proofs.Common.{◌≡◌, Some, None, ◌∙◌, arith}
 use Rattle.std.proofs.lemmas.Result.{err_from_is_err_and}
-use Rattle.archive.specs.declared.refusal.Refusal.{Refusal}
 use Rattle.archive.specs.declared.refusal.Refusal.TheVariants.{NoSigner}
-use Rattle.archive.specs.Opened.{Shut}
-use Rattle.archive.proofs.Opening.{refused_by, signers_read, signer_opened, signer_missing}
+use Rattle.archive.proofs.Opening.{signers_read, signer_opened, signer_missing}
 use Rattle.archive.proofs.gate.open_signer.Goals as goal
-
-pub returns-in_err-message : goal.returns-in_err-message
-returns-in_err-message c =
-    let p = err_from_is_err_and c.from_residual.result c.from_residual.ensures.1 in
-    rw p.1 (refused_by c.args.buffer.now c.args.n c.args.signer p.0 (subst (λ (y : Refusal). Shut c.args.buffer.now c.args.n y) (sym p.2) c.in_err-message.ensures))
 
 pub returns-in_err-signer : goal.returns-in_err-signer
 returns-in_err-signer c =
