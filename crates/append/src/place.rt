@@ -10,6 +10,7 @@ pub(crate) enum Path {
 }
 
 /// The place of a list, whether its field is there, and the field's tag.
+// A plain yes or no: a field that is not there has its offsets all the same.
 #[derive(Clone, Copy)]
 pub(crate) struct Place {
     pub(crate) path: Path,

@@ -24,52 +24,46 @@ size_stamp : length stamp_type ≡ 8
 unfolding stamp_type
 size_stamp = refl
 
-module _ (s x : List ℕ) where
-  grows_set : length x < length (set_bytes x)
-  unfolding set_bytes
-  grows_set = framed_longer 0x31 x
+-- each element is longer than what is in it: those of the signer and inside it
+record InnerGrows (s x : List ℕ) : Type 0 where
+  set : length x < length (set_bytes x)
+  carrier : 8 + length (set_bytes x) < length (carrier_bytes x)
+  unsigned : length (carrier_bytes x) < length (unsigned_bytes x)
+  signer : length s + length (unsigned_bytes x) < length (signer_bytes s x)
 
-  grows_carrier : 8 + length (set_bytes x) < length (carrier_bytes x)
-  unfolding carrier_bytes
-  grows_carrier = omega (arith, led_longer 0x30 index_type (set_bytes x), size_index)
+inner_grows : (s x : List ℕ) → InnerGrows s x
+unfolding set_bytes carrier_bytes unsigned_bytes signer_bytes
+inner_grows s x = record {
+  set = framed_longer 0x31 x;
+  carrier = omega (arith, led_longer 0x30 index_type (set_bytes x), size_index);
+  unsigned = framed_longer 0xa1 (carrier_bytes x);
+  signer = led_longer 0x30 s (unsigned_bytes x);
+}
 
-  grows_unsigned : length (carrier_bytes x) < length (unsigned_bytes x)
-  unfolding unsigned_bytes
-  grows_unsigned = framed_longer 0xa1 (carrier_bytes x)
+-- and those around it
+record OuterGrows (i f s x : List ℕ) : Type 0 where
+  signers : length (signer_bytes s x) < length (signers_bytes s x)
+  fields : length f + length (signers_bytes s x) < length (data_bytes f s x)
+  field : length (data_bytes f s x) < length (field_bytes f s x)
+  message : length i + length (field_bytes f s x) < length (message_bytes i f s x)
+  values : length (message_bytes i f s x) < length (values_bytes i f s x)
+  stamp : 8 + length (values_bytes i f s x) < length (stamp_bytes i f s x)
 
-  grows_signer : length s + length (unsigned_bytes x) < length (signer_bytes s x)
-  unfolding signer_bytes
-  grows_signer = led_longer 0x30 s (unsigned_bytes x)
-
-module _ (i f s x : List ℕ) where
-  grows_signers : length (signer_bytes s x) < length (signers_bytes s x)
-  unfolding signers_bytes
-  grows_signers = framed_longer 0x31 (signer_bytes s x)
-
-  grows_data : length f + length (signers_bytes s x) < length (data_bytes f s x)
-  unfolding data_bytes
-  grows_data = led_longer 0x30 f (signers_bytes s x)
-
-  grows_field : length (data_bytes f s x) < length (field_bytes f s x)
-  unfolding field_bytes
-  grows_field = framed_longer 0xa0 (data_bytes f s x)
-
-  grows_message : length i + length (field_bytes f s x) < length (message_bytes i f s x)
-  unfolding message_bytes
-  grows_message = led_longer 0x30 i (field_bytes f s x)
-
-  grows_values : length (message_bytes i f s x) < length (values_bytes i f s x)
-  unfolding values_bytes
-  grows_values = framed_longer 0x31 (message_bytes i f s x)
-
-  grows_stamp : 8 + length (values_bytes i f s x) < length (stamp_bytes i f s x)
-  unfolding stamp_bytes
-  grows_stamp = omega (arith, led_longer 0x30 stamp_type (values_bytes i f s x), size_stamp)
+outer_grows : (i f s x : List ℕ) → OuterGrows i f s x
+unfolding signers_bytes data_bytes field_bytes message_bytes values_bytes stamp_bytes
+outer_grows i f s x = record {
+  signers = framed_longer 0x31 (signer_bytes s x);
+  fields = led_longer 0x30 f (signers_bytes s x);
+  field = framed_longer 0xa0 (data_bytes f s x);
+  message = led_longer 0x30 i (field_bytes f s x);
+  values = framed_longer 0x31 (message_bytes i f s x);
+  stamp = omega (arith, led_longer 0x30 stamp_type (values_bytes i f s x), size_stamp);
+}
 
 -- one size too large inside makes the signer too long
 module _ (six index : ℕ) where
   pub set_long : 65535 < index → InnerLong six index
-  set_long h s x p q = omega (arith, grows_set s x, grows_carrier s x, grows_unsigned s x, grows_signer s x)
+  set_long h s x p q = omega (arith, inner_grows s x)
 
   module _ (set : Framed) (a : Framing set 0x31 index) where
     set_total : (x : List ℕ) → length x ≡ index → set.total ≡ length (set_bytes x)
@@ -77,7 +71,7 @@ module _ (six index : ℕ) where
     set_total x q = a.total x q
 
     pub carrier_long : 65535 < 8 + set.total → InnerLong six index
-    carrier_long h s x p q = omega (arith, set_total x q, grows_carrier s x, grows_unsigned s x, grows_signer s x)
+    carrier_long h s x p q = omega (arith, set_total x q, inner_grows s x)
 
     module _ (carrier : Framed) (b : Framing carrier 0x30 (8 + set.total)) where
       carrier_size : (x : List ℕ) → length x ≡ index → length (index_type ++ set_bytes x) ≡ 8 + set.total
@@ -88,7 +82,7 @@ module _ (six index : ℕ) where
       carrier_total x q = b.total (index_type ++ set_bytes x) (carrier_size x q)
 
       pub unsigned_long : 65535 < carrier.total → InnerLong six index
-      unsigned_long h s x p q = omega (arith, carrier_total x q, grows_unsigned s x, grows_signer s x)
+      unsigned_long h s x p q = omega (arith, carrier_total x q, inner_grows s x)
 
       module _ (unsigned : Framed) (d : Framing unsigned 0xa1 carrier.total) where
         unsigned_total : (x : List ℕ) → length x ≡ index → unsigned.total ≡ length (unsigned_bytes x)
@@ -96,7 +90,7 @@ module _ (six index : ℕ) where
         unsigned_total x q = d.total (carrier_bytes x) (sym (carrier_total x q))
 
         pub signer_long : 65535 < six + unsigned.total → InnerLong six index
-        signer_long h s x p q = omega (arith, unsigned_total x q, grows_signer s x)
+        signer_long h s x p q = omega (arith, unsigned_total x q, inner_grows s x)
 
         module _ (signer : Framed) (e : Framing signer 0x30 (six + unsigned.total)) where
           signer_size : (s x : List ℕ) → length s ≡ six → length x ≡ index → length (s ++ unsigned_bytes x) ≡ six + unsigned.total
@@ -118,7 +112,7 @@ module _ (six index : ℕ) where
 -- and around the signer
 module _ (identifier front signer : ℕ) where
   pub signers_long : 65535 < signer → OuterLong identifier front signer
-  signers_long h i f s x p q r = omega (arith, grows_signers i f s x, grows_data i f s x, grows_field i f s x, grows_message i f s x, grows_values i f s x, grows_stamp i f s x)
+  signers_long h i f s x p q r = omega (arith, outer_grows i f s x)
 
   module _ (signers : Framed) (a : Framing signers 0x31 signer) where
     signers_total : (s x : List ℕ) → length (signer_bytes s x) ≡ signer → signers.total ≡ length (signers_bytes s x)
@@ -126,7 +120,7 @@ module _ (identifier front signer : ℕ) where
     signers_total s x r = a.total (signer_bytes s x) r
 
     pub data_long : 65535 < front + signers.total → OuterLong identifier front signer
-    data_long h i f s x p q r = omega (arith, signers_total s x r, grows_data i f s x, grows_field i f s x, grows_message i f s x, grows_values i f s x, grows_stamp i f s x)
+    data_long h i f s x p q r = omega (arith, signers_total s x r, outer_grows i f s x)
 
     module _ (fields : Framed) (b : Framing fields 0x30 (front + signers.total)) where
       data_size : (f s x : List ℕ) → length f ≡ front → length (signer_bytes s x) ≡ signer → length (f ++ signers_bytes s x) ≡ front + signers.total
@@ -137,7 +131,7 @@ module _ (identifier front signer : ℕ) where
       data_total f s x q r = b.total (f ++ signers_bytes s x) (data_size f s x q r)
 
       pub field_long : 65535 < fields.total → OuterLong identifier front signer
-      field_long h i f s x p q r = omega (arith, data_total f s x q r, grows_field i f s x, grows_message i f s x, grows_values i f s x, grows_stamp i f s x)
+      field_long h i f s x p q r = omega (arith, data_total f s x q r, outer_grows i f s x)
 
       module _ (field : Framed) (d : Framing field 0xa0 fields.total) where
         field_total : (f s x : List ℕ) → length f ≡ front → length (signer_bytes s x) ≡ signer → field.total ≡ length (field_bytes f s x)
@@ -145,7 +139,7 @@ module _ (identifier front signer : ℕ) where
         field_total f s x q r = d.total (data_bytes f s x) (sym (data_total f s x q r))
 
         pub message_long : 65535 < identifier + field.total → OuterLong identifier front signer
-        message_long h i f s x p q r = omega (arith, field_total f s x q r, grows_message i f s x, grows_values i f s x, grows_stamp i f s x)
+        message_long h i f s x p q r = omega (arith, field_total f s x q r, outer_grows i f s x)
 
         module _ (message : Framed) (e : Framing message 0x30 (identifier + field.total)) where
           message_size : (i f s x : List ℕ) → length i ≡ identifier → length f ≡ front → length (signer_bytes s x) ≡ signer → length (i ++ field_bytes f s x) ≡ identifier + field.total
@@ -156,7 +150,7 @@ module _ (identifier front signer : ℕ) where
           message_total i f s x p q r = e.total (i ++ field_bytes f s x) (message_size i f s x p q r)
 
           pub values_long : 65535 < message.total → OuterLong identifier front signer
-          values_long h i f s x p q r = omega (arith, message_total i f s x p q r, grows_values i f s x, grows_stamp i f s x)
+          values_long h i f s x p q r = omega (arith, message_total i f s x p q r, outer_grows i f s x)
 
           module _ (values : Framed) (g : Framing values 0x31 message.total) where
             values_total : (i f s x : List ℕ) → length i ≡ identifier → length f ≡ front → length (signer_bytes s x) ≡ signer → values.total ≡ length (values_bytes i f s x)
@@ -164,7 +158,7 @@ module _ (identifier front signer : ℕ) where
             values_total i f s x p q r = g.total (message_bytes i f s x) (sym (message_total i f s x p q r))
 
             pub stamp_long : 65535 < 8 + values.total → OuterLong identifier front signer
-            stamp_long h i f s x p q r = omega (arith, values_total i f s x p q r, grows_stamp i f s x)
+            stamp_long h i f s x p q r = omega (arith, values_total i f s x p q r, outer_grows i f s x)
 
             module _ (stamp : Framed) (k : Framing stamp 0x30 (8 + values.total)) where
               stamp_size : (i f s x : List ℕ) → length i ≡ identifier → length f ≡ front → length (signer_bytes s x) ≡ signer → length (stamp_type ++ values_bytes i f s x) ≡ 8 + values.total
@@ -188,31 +182,11 @@ module _ (identifier front signer : ℕ) where
 
 -- the signer too long makes the stamp too long
 pub inner_long : (front six index : ℕ) → InnerLong six index → TooLong front six index
-inner_long front six index l f s x p q r =
-    omega (
-      arith,
-      l s x q r,
-      grows_signers identifier_bytes f s x,
-      grows_data identifier_bytes f s x,
-      grows_field identifier_bytes f s x,
-      grows_message identifier_bytes f s x,
-      grows_values identifier_bytes f s x,
-      grows_stamp identifier_bytes f s x,
-    )
+inner_long front six index l f s x p q r = omega (arith, l s x q r, outer_grows identifier_bytes f s x)
 
 -- a front or six fields too long make the stamp too long
 pub lead_long : (f s x : List ℕ) → 65535 < length f + length s → 65535 < length (stamp_bytes identifier_bytes f s x)
-lead_long f s x h =
-    omega (
-      arith,
-      grows_signer s x,
-      grows_signers identifier_bytes f s x,
-      grows_data identifier_bytes f s x,
-      grows_field identifier_bytes f s x,
-      grows_message identifier_bytes f s x,
-      grows_values identifier_bytes f s x,
-      grows_stamp identifier_bytes f s x,
-    )
+lead_long f s x h = omega (arith, inner_grows s x, outer_grows identifier_bytes f s x)
 
 -- what is said of all bytes of these lengths is said of these
 pub of_these : (f s x : List ℕ) (o : Option Headers) → MatchOption o (TooLong (length f) (length s) (length x)) (Fitting (length f) (length s) (length x)) →

@@ -2,6 +2,7 @@
 use der::HeaderBytes;
 
 /// Those of the signer and of what is inside it, and how many bytes the signer has in all.
+// Not an array: each header is told by the name of its element.
 #[derive(Clone, Copy)]
 pub struct Inner {
     pub(crate) signer: HeaderBytes,

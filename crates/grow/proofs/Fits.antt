@@ -17,9 +17,6 @@ same_err d e p = cc
 pub short_over : (n : ℕ) → 65535 < n → Err TooLong ≡ short n
 short_over n l = sym (cond-false (leb n 65535) _ _ (lt-leb n 65535 l))
 
-pub short_within : (m n : ℕ) → m ≡ n → n ≤ 65535 → Ok m ≡ short n
-short_within m n e l = ap {B = Result ℕ Full} Ok e ∙ sym (cond-true (leb n 65535) _ _ (le-leb n 65535 l))
-
 pub short_is : (m n : ℕ) → Ok m ≡ short n → (m ≡ n) × (n ≤ 65535)
 short_is m n q =
     cond_both (leb n 65535) (Ok n) (Err TooLong) (λ r. Ok m ≡ r → (m ≡ n) × (n ≤ 65535))

@@ -45,9 +45,6 @@ module _ (file path : List ℕ) (i grow total : ℕ) (l : i < length path) (s : 
     pub ahead_size : h.size ≤ length file
     ahead_size = omega (arith, hs.2, t.ends)
 
-    pub ahead_grows : h.head ≤ header_size_of (h.size + grow)
-    ahead_grows = omega (arith, hs.1, header_grows (length a.1) (h.size + grow) (omega (arith, hs.2)))
-
     pub ahead_most : h.size + grow ≤ total
     ahead_most = omega (arith, hs.2, reach_least a.0 (length a.1 + grow), a.3)
 

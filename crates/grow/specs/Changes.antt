@@ -11,7 +11,11 @@ pub record Encloses (file path : List ℕ) (fs : List Frame) (body : List ℕ) :
   pub here : path ≡ places fs (length body)
   pub low : OneByteTags fs
 
--- and the contents are cut in two at `at`
+-- the path leads to contents of the file
+abbrev pub IsPath : List ℕ → List ℕ → Type 0
+IsPath file path = (fs : List Frame) × (body : List ℕ) × Encloses file path fs body
+
+-- the file is contents inside the frames, and these are cut in two at `at`
 pub record Spot (file path : List ℕ) (at : ℕ) (fs : List Frame) (pre post : List ℕ) : Type 0 where
   pub encloses : Encloses file path fs (pre ++ post)
   pub cut : at ≡ start fs (length (pre ++ post)) + length pre

@@ -3,7 +3,7 @@ ghost use Rattle.std.specs.Prelude.{◌≡◌, ℕ, List, ◌++◌, length};
 ghost use Rattle.areas.specs.Pieces.{joined};
 ghost use Rattle.der.specs.Trees.{framed};
 ghost use Rattle.grow.specs.Frames.{Frame, plug};
-ghost use Rattle.grow.specs.Changes.{Encloses, Spot, Wrapped, Fits, Changed, SameBuffer, file_in};
+ghost use Rattle.grow.specs.Changes.{IsPath, Encloses, Spot, Wrapped, Fits, Changed, SameBuffer, file_in};
 
 use crate::file::GrowingFile;
 use crate::full::Full;
@@ -17,7 +17,7 @@ impl GrowingFile<'_> {
     /// Answers the new length of the file.
     /// Refuses a new file of more than 65,535 bytes, and then one that passes the buffer, which then is as it was.
     pub fn append(&mut self, path: &[usize], pieces: &[&[u8]]) -> Result<usize, Full>
-        requires path { (fs : List Frame) × (body : List ℕ) × Encloses (file_in self.old) path.now fs body }
+        requires path { IsPath (file_in self.old) path.now }
         ensures same_buffer { SameBuffer self.old self.new }
         ensures changed { (fs : List Frame) (body : List ℕ) → Encloses (file_in self.old) path.now fs body
             → Changed self.old self.new result (plug fs (body ++ joined pieces.now)) }

@@ -5,7 +5,7 @@ ghost use Rattle.der.specs.Headers.{header_size_of};
 ghost use Rattle.der.specs.Trees.{header_bytes};
 ghost use Rattle.grow.specs.Frames.{Frame, start, plug};
 ghost use Rattle.grow.specs.Splices.{Spliced};
-ghost use Rattle.grow.specs.Changes.{Encloses, Stale, Fits, Wrapped, SameBuffer, file_in};
+ghost use Rattle.grow.specs.Changes.{IsPath, Encloses, Stale, Fits, Wrapped, SameBuffer, file_in};
 
 use crate::file::GrowingFile;
 use crate::putting::put_header;
@@ -26,7 +26,7 @@ pub(crate) fn header_at(file: &[u8], place: usize) -> Header
 /// Where the contents of the innermost element at `path` end; the end of the file where there is none.
 pub(crate) fn contents_end(file: &[u8], path: &[usize]) -> usize
     requires short { length file.now ≤ 65535 }
-    requires path { (fs : List Frame) × (body : List ℕ) × Encloses file.now path.now fs body }
+    requires path { IsPath file.now path.now }
     ensures { (fs : List Frame) (body : List ℕ) → Encloses file.now path.now fs body → result ≡ start fs (length body) + length body }
 {
     match path {

@@ -3,7 +3,7 @@ ghost use Rattle.std.specs.Prelude.{◌≡◌, ℕ, List, ◌++◌, length};
 ghost use Rattle.areas.specs.Pieces.{joined};
 ghost use Rattle.der.specs.Trees.{framed};
 ghost use Rattle.grow.specs.Frames.{Frame, plug};
-ghost use Rattle.grow.specs.Changes.{Encloses, short, fitting};
+ghost use Rattle.grow.specs.Changes.{IsPath, Encloses, short, fitting};
 
 use crate::full::Full;
 use crate::headers::header_at;
@@ -29,7 +29,7 @@ pub fn joined_length(pieces: &[&[u8]]) -> Result<usize, Full>
 /// The length of the file once `more` bytes stand behind the contents of the innermost element at `path`, in a buffer of `room` bytes.
 /// Refuses what `append` would refuse.
 pub fn measure_append(file: &[u8], room: usize, path: &[usize], more: usize) -> Result<usize, Full>
-    requires path { (fs : List Frame) × (body : List ℕ) × Encloses file.now path.now fs body }
+    requires path { IsPath file.now path.now }
     ensures { (fs : List Frame) (body new : List ℕ) → Encloses file.now path.now fs body → length new ≡ more
         → result ≡ fitting room (length (plug fs (body ++ new))) }
 {
@@ -58,7 +58,7 @@ pub fn measure_append(file: &[u8], room: usize, path: &[usize], more: usize) -> 
 /// The length of the file once a new element with `more` bytes of contents stands in the innermost element at `path`.
 /// Refuses what `insert_field` would refuse.
 pub fn measure_field(file: &[u8], room: usize, path: &[usize], more: usize) -> Result<usize, Full>
-    requires path { (fs : List Frame) × (body : List ℕ) × Encloses file.now path.now fs body }
+    requires path { IsPath file.now path.now }
     ensures { (fs : List Frame) (pre post new : List ℕ) (tag : ℕ) → Encloses file.now path.now fs (pre ++ post) → length new ≡ more
         → result ≡ fitting room (length (plug fs (pre ++ (framed tag new ++ post)))) }
 {

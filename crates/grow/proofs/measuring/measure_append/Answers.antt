@@ -1,8 +1,8 @@
-use Rattle.std.proofs.Common.{◌≡◌, ◌+◌, ◌++◌, length, refl, arith}
+use Rattle.std.proofs.Common.{◌≡◌, ◌+◌, ◌++◌, length, arith}
 use Rattle.grow.specs.Frames.{plug}
 use Rattle.grow.proofs.Plugs.{header_most}
 use Rattle.grow.proofs.Fits.{too_long, no_room, fits}
-use Rattle.grow.proofs.Sizes.{ahead_place, ahead_header, ahead_size, ahead_grows, ahead_most, ahead_on, ahead_end, total_most}
+use Rattle.grow.proofs.Sizes.{ahead_place, ahead_header, ahead_size, ahead_most, ahead_on, ahead_end, total_most}
 use Rattle.grow.proofs.Inserts.{length_appended}
 use Rattle.grow.proofs.measuring.measure_append.Goals as goal
 
@@ -10,9 +10,6 @@ pub returns-then-file-gt-MOST : goal.returns-then-file-gt-MOST
 returns-then-file-gt-MOST c fs body new e m =
     too_long _ (length (plug fs (body ++ new)))
     (omega (arith, length_appended fs body new c.args.more m, total_most _ _ c.args.more fs body e, c.then-file-gt-MOST.either))
-
-pub loop-place-init : goal.loop-place-init
-loop-place-init c = (omega arith, λ fs body e. (fs, body, e, refl))
 
 pub header_at-header-requires : goal.header_at-header-requires
 header_at-header-requires c =
@@ -32,11 +29,6 @@ returns-then-size-gt-MOST c fs body new e m =
     let a = c.loop-place.invariant.1 fs body e in
     too_long _ (length (plug fs (body ++ new)))
     (omega (arith, length_appended fs body new c.args.more m, c.if-size-gt-MOST.true, ahead_most _ _ c.loop-place.place-index _ _ c.loop-place-test.true (omega arith) a c.header_at-header.result c.header_at-header.ensures))
-
-pub overflow_sub-grow : goal.overflow_sub-grow
-overflow_sub-grow c =
-    let a = c.loop-place.invariant.1 c.requires.path.0 c.requires.path.1 c.requires.path.2 in
-    omega (arith, c.header_size.ensures, ahead_grows _ _ c.loop-place.place-index _ _ c.loop-place-test.true (omega arith) a c.header_at-header.result c.header_at-header.ensures)
 
 pub loop-place-preserved : goal.loop-place-preserved
 loop-place-preserved c = (

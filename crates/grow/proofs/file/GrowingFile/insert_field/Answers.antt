@@ -1,12 +1,10 @@
-use Rattle.std.proofs.Common.{◌≡◌, ℕ, List, ◌++◌, length, sym, ap, subst, arith}
+use Rattle.std.proofs.Common.{ℕ, List, ◌++◌, subst, arith}
 use Rattle.std.proofs.lemmas.Result.{err_from_is_err_and}
 use Rattle.areas.specs.Pieces.{joined}
-use Rattle.der.specs.Headers.{header_size_of}
 use Rattle.der.specs.Trees.{framed}
 use Rattle.grow.specs.Frames.{plug}
-use Rattle.grow.specs.Changes.{Fits, Wrapped}
-use Rattle.grow.proofs.Fits.{short_is}
-use Rattle.grow.proofs.Plugs.{header_most, length_framed}
+use Rattle.grow.specs.Changes.{Wrapped}
+use Rattle.grow.proofs.Plugs.{length_framed}
 use Rattle.grow.proofs.Inserts.{refused_long, field_fits, field_written, wrapped_changed}
 use Rattle.grow.proofs.file.GrowingFile.insert_field.Goals as goal
 
@@ -16,22 +14,6 @@ returns-in_err-size-clause-changed c fs pre post s =
     let p = err_from_is_err_and c.from_residual.result c.from_residual.ensures.1 in
     refused_long c.args.self.now fs pre (framed c.args.tag new) post new c.from_residual.result p.0 c.in_err-size.field-0.0 p.1 p.2
     c.in_err-size.ensures (omega (arith, length_framed c.args.tag new))
-
-pub put_header-head-requires : goal.put_header-head-requires
-put_header-head-requires c = record { short = omega (arith, short_is _ _ c.in_ok-size.ensures); room = omega (arith, header_most c.in_ok-size.size) }
-
-pub insert-requires : goal.insert-requires
-insert-requires c =
-    let (fs, pre, post, s) = c.requires.spot in
-    let new : List ℕ = joined c.args.pieces.now in
-    let fit = field_fits c.args.self.now _ _ new _ _ _ fs c.bytes.ensures c.room.ensures c.in_ok-size.ensures pre post c.args.tag s.encloses c.in_ok-measure_field.ensures in
-    let w = field_written c.args.tag _ _ _ _ new c.in_ok-size.ensures c.put_header-head.ensures.ends c.put_header-head.ensures.area in
-    let size : c.in_ok-size.size ≡ length new = (short_is _ _ c.in_ok-size.ensures).0 in
-    let k : header_size_of c.in_ok-size.size ≡ header_size_of (length new) = ap header_size_of size in
-    record {
-      size = omega (arith, ap length w, length_framed c.args.tag new, c.put_header-head.ensures.ends, size, k);
-      spot = (fs, pre, post, s, subst (λ (x : List ℕ). Fits c.args.self.now (plug fs (pre ++ (x ++ post)))) (sym w) fit);
-    }
 
 pub returns-clause-changed : goal.returns-clause-changed
 returns-clause-changed c fs pre post s =
