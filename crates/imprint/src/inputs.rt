@@ -11,11 +11,9 @@ ghost use Rattle.imprint.specs.Inputs.{bytes_of, Found, Written};
 use crate::pieces::{Input, Short};
 use areas::put_all;
 use cms::{Message, Signer};
-use der::Element;
+use der::{Element, part_of};
 use digest::digesting::digest_pieces;
 use digest::interface::Digest;
-use digest::making::part_of;
-use digest::part::Part;
 use digest::refusal::Refusal;
 
 /// The imprint input of a signer and an index. `message` and `signer` say where the parts lie in the file.
@@ -35,14 +33,10 @@ pub fn input_of<'a>(
         bytes: file,
         span: message.info.kind,
     };
-    let fields = Part::Buffer {
-        from: signer.whole.body,
-        to: signer.signature.end,
-    };
     Input {
         content_type: content_type.whole(),
         content_digest,
-        fields: part_of(file, &[], fields),
+        fields: part_of(file, signer.whole.body, signer.signature.end),
         index,
     }
 }

@@ -3,12 +3,10 @@ ghost use Rattle.std.specs.Prelude.{◌≡◌};
 ghost use Rattle.stamp.specs.Records.{value_in, attribute_in, unsigned_in, carried_of};
 
 use der::{Reader, Span};
-use fields::{enter, expect, expect_identifier, finish, read_any};
+use fields::{enter, expect, expect_identifier, finish, read_any, read_whole};
 
 /// The type of the attribute that carries an index.
 const INDEX: [u8; 6] = [0x04, 0x00, 0x8d, 0x45, 0x02, 0x05];
-
-// Each layer has a function of its own: one for all would take the layer inside as a closure, with clauses, and be longer.
 
 /// The one value in its set.
 fn read_value(reader: &Reader, set: Span) -> Result<Span, usize>
@@ -36,11 +34,9 @@ fn read_attribute(reader: &Reader, whole: Span) -> Result<Span, usize>
 fn read_unsigned(reader: &Reader, field: Span) -> Result<Span, usize>
     ensures { result ≡ unsigned_in reader.now.bytes.now field }
 {
-    let mut inside = enter(reader, field);
-    let attribute = expect(&mut inside, 0x30)?;
-    let value = read_attribute(&inside, attribute)?;
-    finish(&inside)?;
-    Ok(value)
+    read_whole(enter(reader, field), 0x30, |inside, attribute| {
+        read_attribute(&inside, attribute)
+    })
 }
 
 /// Where the index lies that is carried behind the six fields of a signer: the reader stands there, and ends where the
@@ -48,9 +44,7 @@ fn read_unsigned(reader: &Reader, field: Span) -> Result<Span, usize>
 pub(crate) fn read_carried(reader: Reader) -> Result<Span, usize>
     ensures { result ≡ carried_of reader.entry.bytes.now reader.entry.at reader.entry.end }
 {
-    let mut outside = reader;
-    let field = expect(&mut outside, 0xa1)?;
-    let value = read_unsigned(&outside, field)?;
-    finish(&outside)?;
-    Ok(value)
+    read_whole(reader, 0xa1, |outside, field| {
+        read_unsigned(&outside, field)
+    })
 }

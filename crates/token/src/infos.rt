@@ -5,7 +5,7 @@ ghost use Rattle.token.specs.Records.{imprint_in, version_of, info_in, info_of};
 
 use crate::located::{ImprintParts, InfoParts};
 use der::{Reader, Span, walk_first};
-use fields::{enter, expect, finish, read_number};
+use fields::{enter, expect, finish, read_number, read_whole};
 use index::read_algorithm;
 use message::MessageFault;
 
@@ -55,11 +55,7 @@ fn read_fields(reader: &Reader, whole: Span) -> Result<InfoParts, usize>
 fn read_parts(reader: Reader) -> Result<InfoParts, usize>
     ensures { result ≡ info_of reader.entry.bytes.now reader.entry.at reader.entry.end }
 {
-    let mut outside = reader;
-    let whole = expect(&mut outside, 0x30)?;
-    let info = read_fields(&outside, whole)?;
-    finish(&outside)?;
-    Ok(info)
+    read_whole(reader, 0x30, |outside, whole| read_fields(&outside, whole))
 }
 
 // Walked and read as `message::read_formed` does: a function for both would take the reading with its clauses, and be longer.
