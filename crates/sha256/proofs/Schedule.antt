@@ -1,10 +1,10 @@
 -- The words of the schedule, and one step of each definition that counts up.
-use Rattle.std.proofs.Common.{◌≡◌, ℕ, zero, suc, ◌+◌, ◌-◌, ◌<◌, ◌≤◌, false, cond, ltb, List, [], ◌∷◌, ◌++◌, length, get_or, sym, refl, ap, ◌∙◌, ⊎_elim, add-one, arith, length-append}
+use Rattle.std.proofs.Common.{◌≡◌, ℕ, zero, suc, ◌+◌, ◌-◌, ◌<◌, ◌≤◌, false, true, cond, ltb, List, [], ◌∷◌, ◌++◌, length, get_or, sym, refl, ap, ◌∙◌, ⊎_elim, add-one, arith, below_more, below_none, lit<, length-append}
 use Rattle.std.proofs.lemmas.List.{get_or_append_left, get_or_at}
-use Rattle.std.proofs.lemmas.Bool.{cases_lt, le-ltb}
+use Rattle.std.proofs.lemmas.Bool.{cases_lt, le-ltb, lt-ltb}
 use Rattle.sha256.specs.declared.words.Words.{Words}
 use Rattle.sha256.specs.Sha.{K, M, mixed, next_word, W, round, rounds}
-use Rattle.sha256.specs.Windows.{word_at}
+use Rattle.sha256.specs.Windows.{Slid, word_at}
 
 W_more : (block : List ℕ) (n : ℕ) → W block (n + 1) ≡ W block n ++ next_word block (W block n) n ∷ []
 unfolding W
@@ -27,6 +27,18 @@ word_of_W block (suc n) t h =
     let e : suc n ≡ t + 1 = omega arith in
     ap (λ m. get_or (W block m) t 0) e in
     ⊎_elim before last (cases_lt t n)
+
+-- the first sixteen words are the block's
+pub word_first : (block : List ℕ) (k : ℕ) → k < 16 → M block k ≡ word_at block (0 + k)
+unfolding word_at next_word
+word_first block k h =
+    let ws = W block k in
+    let near : ltb k 16 ≡ true = lt-ltb k 16 h in
+    let none : 0 + k ≡ k = omega arith in
+    sym (ap (λ j. get_or (W block (j + 1)) j 0) none
+    ∙ ap (λ l. get_or l k 0) (W_more block k)
+    ∙ get_or_at ws (next_word block ws k) [] 0 k (length_W block k)
+    ∙ ap (λ z. cond z (M block k) (mixed (get_or ws (k - 2) 0) (get_or ws (k - 7) 0) (get_or ws (k - 15) 0) (get_or ws (k - 16) 0))) near)
 
 -- past the first sixteen a word is mixed of four before it
 pub word_next : (block : List ℕ) (t : ℕ) → word_at block (t + 16) ≡ mixed (word_at block (t + 14)) (word_at block (t + 9)) (word_at block (t + 1)) (word_at block t)
@@ -74,3 +86,16 @@ word_step block n m a b c d x e p q r s is =
 -- the same word, where the code counts from another place
 pub word_moved : (block : List ℕ) (n m x : ℕ) → x ≡ word_at block n → m ≡ n → x ≡ word_at block m
 word_moved block n m x p e = p ∙ ap (word_at block) (sym e)
+
+-- the window moved on by four words
+pub slid_four : (block w : List ℕ) (n x0 x1 x2 x3 : ℕ) → Slid block n w → x0 ≡ word_at block (n + 16) → x1 ≡ word_at block (n + 17) → x2 ≡ word_at block (n + 18) → x3 ≡ word_at block (n + 19)
+    → Slid block (n + 4) (get_or w 4 0 ∷ get_or w 5 0 ∷ get_or w 6 0 ∷ get_or w 7 0 ∷ get_or w 8 0 ∷ get_or w 9 0 ∷ get_or w 10 0 ∷ get_or w 11 0 ∷ get_or w 12 0 ∷ get_or w 13 0 ∷ get_or w 14 0 ∷ get_or w 15 0 ∷ x0 ∷ x1 ∷ x2 ∷ x3 ∷ [])
+slid_four block w n x0 x1 x2 x3 h p0 p1 p2 p3 =
+    let next : List ℕ = get_or w 4 0 ∷ get_or w 5 0 ∷ get_or w 6 0 ∷ get_or w 7 0 ∷ get_or w 8 0 ∷ get_or w 9 0 ∷ get_or w 10 0 ∷ get_or w 11 0 ∷ get_or w 12 0 ∷ get_or w 13 0 ∷ get_or w 14 0 ∷ get_or w 15 0 ∷ x0 ∷ x1 ∷ x2 ∷ x3 ∷ [] in
+    let P : ℕ → Type 0 = λ k. get_or next k 0 ≡ word_at block (n + 4 + k) in
+    let old : (k : ℕ) → k < 12 → get_or w (k + 4) 0 ≡ word_at block (n + 4 + k) = λ k l. word_moved block (n + (k + 4)) (n + 4 + k) _ (h (k + 4) (omega arith)) (omega arith) in
+    let new' : (k x : ℕ) → x ≡ word_at block (n + (k + 4)) → x ≡ word_at block (n + 4 + k) = λ k x e. word_moved block (n + (k + 4)) (n + 4 + k) x e (omega arith) in
+    let four : (k : ℕ) → k < 4 → P k = below_more P 3 (below_more P 2 (below_more P 1 (below_more P 0 (below_none P) (old 0 (lit< tt))) (old 1 (lit< tt))) (old 2 (lit< tt))) (old 3 (lit< tt)) in
+    let eight : (k : ℕ) → k < 8 → P k = below_more P 7 (below_more P 6 (below_more P 5 (below_more P 4 four (old 4 (lit< tt))) (old 5 (lit< tt))) (old 6 (lit< tt))) (old 7 (lit< tt)) in
+    let twelve : (k : ℕ) → k < 12 → P k = below_more P 11 (below_more P 10 (below_more P 9 (below_more P 8 eight (old 8 (lit< tt))) (old 9 (lit< tt))) (old 10 (lit< tt))) (old 11 (lit< tt)) in
+    below_more P 15 (below_more P 14 (below_more P 13 (below_more P 12 twelve (new' 12 x0 p0)) (new' 13 x1 p1)) (new' 14 x2 p2)) (new' 15 x3 p3)

@@ -6,5 +6,5 @@ pub mod hash;
 mod padding;
 mod rounds;
 pub mod state;
-mod window;
+mod step;
 mod words;

@@ -3,7 +3,7 @@ ghost use Rattle.std.specs.Prelude.{◌≡◌, ℕ, ◌+◌, ◌<◌, ◌≤◌,
 ghost use Rattle.sha256.specs.Sha.{Ch, Maj, Σ₀, Σ₁, σ₀, σ₁, M as word_of, mixed, round as round_of, added, compress};
 ghost use Rattle.sha256.specs.Windows.{Slid, Reached};
 
-use crate::window::{Step, Window};
+use crate::step::Step;
 use crate::words::Words;
 
 const K: [u32; 64] = [
@@ -94,32 +94,18 @@ fn four_rounds<const I: usize>(from: Step) -> Step
     ensures { (s : Words) (block : List ℕ) → Reached s block I from → Reached s block (I + 4) result }
 {
     let w = from.window;
-    let v1 = turn(from.words, K[I], w.w0);
-    let x0 = mix(w.w14, w.w9, w.w1, w.w0);
-    let v2 = turn(v1, K[I + 1], w.w1);
-    let x1 = mix(w.w15, w.w10, w.w2, w.w1);
-    let v3 = turn(v2, K[I + 2], w.w2);
-    let x2 = mix(x0, w.w11, w.w3, w.w2);
-    let v4 = turn(v3, K[I + 3], w.w3);
-    let x3 = mix(x1, w.w12, w.w4, w.w3);
-    let window = Window {
-        w0: w.w4,
-        w1: w.w5,
-        w2: w.w6,
-        w3: w.w7,
-        w4: w.w8,
-        w5: w.w9,
-        w6: w.w10,
-        w7: w.w11,
-        w8: w.w12,
-        w9: w.w13,
-        w10: w.w14,
-        w11: w.w15,
-        w12: x0,
-        w13: x1,
-        w14: x2,
-        w15: x3,
-    };
+    let v1 = turn(from.words, K[I], w[0]);
+    let x0 = mix(w[14], w[9], w[1], w[0]);
+    let v2 = turn(v1, K[I + 1], w[1]);
+    let x1 = mix(w[15], w[10], w[2], w[1]);
+    let v3 = turn(v2, K[I + 2], w[2]);
+    let x2 = mix(x0, w[11], w[3], w[2]);
+    let v4 = turn(v3, K[I + 3], w[3]);
+    let x3 = mix(x1, w[12], w[4], w[3]);
+    let window = [
+        w[4], w[5], w[6], w[7], w[8], w[9], w[10], w[11], w[12], w[13], w[14], w[15], x0, x1, x2,
+        x3,
+    ];
     Step { words: v4, window }
 }
 
@@ -128,32 +114,20 @@ fn load(block: &[u8; 64], i: usize) -> u32
     requires { i < 16 }
     ensures { result ≡ word_of block.now i }
 {
+    // Byte by byte, as the definition is: with `as_chunks` the contract would say where a chunk lies in the block.
     let at = 4 * i;
     u32::from_be_bytes([block[at], block[at + 1], block[at + 2], block[at + 3]])
 }
 
 /// The words of a block: the schedule's first sixteen.
-fn first_window(block: &[u8; 64]) -> Window
+fn first_window(block: &[u8; 64]) -> [u32; 16]
     ensures { Slid block.now 0 result }
 {
-    Window {
-        w0: load(block, 0),
-        w1: load(block, 1),
-        w2: load(block, 2),
-        w3: load(block, 3),
-        w4: load(block, 4),
-        w5: load(block, 5),
-        w6: load(block, 6),
-        w7: load(block, 7),
-        w8: load(block, 8),
-        w9: load(block, 9),
-        w10: load(block, 10),
-        w11: load(block, 11),
-        w12: load(block, 12),
-        w13: load(block, 13),
-        w14: load(block, 14),
-        w15: load(block, 15),
+    let mut window = [0; 16];
+    for i in 0..16 {
+        window[i] = load(block, i);
     }
+    window
 }
 
 fn add(s: Words, t: Words) -> Words

@@ -14,6 +14,7 @@ fn read_lane(block: &[u8; 136], i: usize) -> u64
     requires { i < 17 }
     ensures { result ≡ word_at block.now i }
 {
+    // Byte by byte, as the definition is: with `as_chunks` each contract here would say where a chunk lies in the block.
     let at = 8 * i;
     u64::from_le_bytes([
         block[at],

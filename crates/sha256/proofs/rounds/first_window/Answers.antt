@@ -1,25 +1,14 @@
-use Rattle.sha256.specs.Sha.{W, next_word}
-use Rattle.sha256.specs.Windows.{word_at}
+use Rattle.std.proofs.Common.{◌<◌, ◌≢◌, length, ◌∙◌, arith, below_more, get_or-set_other, get_or-set_same, rules}
+use Rattle.sha256.proofs.Schedule.{word_first}
 use Rattle.sha256.proofs.rounds.first_window.Goals as goal
 
+pub loop-i-preserved : goal.loop-i-preserved
+loop-i-preserved c = (
+  search rules,
+  below_more _ _
+      (λ k h. let ne : k ≢ c.loop-i.i = omega arith in rw get_or-set_other (c.loop-i.invariant.1 k h))
+      (let here : c.loop-i.i < length c.loop-i.window = omega arith in rw get_or-set_same c.load.ensures),
+)
+
 pub returns : goal.returns
-unfolding word_at W next_word
-returns c =
-    record {
-      at0 = c.load.ensures;
-      at1 = c.load-2.ensures;
-      at2 = c.load-3.ensures;
-      at3 = c.load-4.ensures;
-      at4 = c.load-5.ensures;
-      at5 = c.load-6.ensures;
-      at6 = c.load-7.ensures;
-      at7 = c.load-8.ensures;
-      at8 = c.load-9.ensures;
-      at9 = c.load-10.ensures;
-      at10 = c.load-11.ensures;
-      at11 = c.load-12.ensures;
-      at12 = c.load-13.ensures;
-      at13 = c.load-14.ensures;
-      at14 = c.load-15.ensures;
-      at15 = c.load-16.ensures;
-    }
+returns c = λ k h. c.loop-i.invariant.1 k (omega arith) ∙ word_first c.args.block.now k h
