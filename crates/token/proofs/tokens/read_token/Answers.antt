@@ -1,15 +1,9 @@
 use Rattle.std.proofs.Common.{ℕ, List, sym, ◌∙◌, subst}
-use Rattle.std.proofs.lemmas.Result.{err_from_is_err_and}
 use Rattle.message.specs.Lies.{SignerLies}
 use Rattle.message.proofs.Lying.{file_lies}
 use Rattle.stamp_model.specs.Tokens.{token_settings}
 use Rattle.token.proofs.Holding.{octets_of_lem, octets_there, no_info, token_at, signer_found, signer_there, signers_moved}
 use Rattle.token.proofs.tokens.read_token.Goals as goal
-
-pub returns-in_err-message : goal.returns-in_err-message
-returns-in_err-message c =
-    let p = err_from_is_err_and c.from_residual.result c.from_residual.ensures.1 in
-    rw (p.1, p.2) c.in_err-message.ensures
 
 pub unreachable-requires : goal.unreachable-requires
 unreachable-requires c =
