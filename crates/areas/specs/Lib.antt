@@ -1,2 +1,3 @@
 pub mod Overlays
 pub mod Pieces
+pub mod Cuts

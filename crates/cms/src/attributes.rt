@@ -45,6 +45,7 @@ impl Entry for Attributes {
 }
 
 /// The unsigned attributes, if their field is there: at least one.
+// `fields::read_maybe_list` with `count_some` for `count`: the one list of its kind, so no parameter says which.
 pub(crate) fn read_unsigned(reader: &mut Reader) -> Result<Option<Entries>, usize>
     ensures { ReadsMaybe unsigned_of entries_stop reader.old reader.new result }
 {

@@ -7,7 +7,7 @@ ghost use Rattle.token.specs.Tokens.{IsToken, LiesAsToken};
 ghost use Rattle.compose.specs.Taken.{Takes};
 
 use crate::leads::Leads;
-use der::part_of;
+use areas::cut;
 use token::TokenParts;
 
 /// The front of a token's signed data and its signer's six fields; `parts` says where they lie.
@@ -15,11 +15,11 @@ pub fn leads_of<'a>(token: &'a [u8], parts: &TokenParts) -> Leads<'a>
     ensures { (levels : ℕ) (f : File) (s : Signer) (i : Info) → IsToken levels token.now f s i → LiesAsToken token.now parts.now f s i → Takes result f s }
 {
     Leads {
-        front: part_of(
+        front: cut(
             token,
             parts.message.whole.body,
             parts.message.signers.field.start,
         ),
-        six: part_of(token, parts.signer.whole.body, parts.signer.signature.end),
+        six: cut(token, parts.signer.whole.body, parts.signer.signature.end),
     }
 }

@@ -12,21 +12,6 @@ use Rattle.der.proofs.Decided.{bytes_take, bytes_drop}
 use Rattle.der.proofs.Heads.{header_within}
 use Rattle.der.proofs.Unique.{headed, leaf_head, contents_of}
 
--- an end behind the bytes is no other than their end
-pub part_stop : (bs : List ℕ) (at end stop : ℕ) → stop ≡ min end (length bs) → part bs at stop ≡ part bs at end
-part_stop bs at end stop e =
-    ⊎_elim
-    (λ (l : end < length bs). ap (λ (n : ℕ). part bs at n) (let q : stop ≡ end = omega arith in q))
-    (λ (l : length bs ≤ end). take_all (stop - at) (drop at bs) (simp length-drop (omega arith)) ∙ sym (take_all (end - at) (drop at bs) (simp length-drop (omega arith))))
-    (cases_lt end (length bs))
-
-pub part_none : (bs : List ℕ) (at end stop : ℕ) → stop ≡ min end (length bs) → stop ≤ at → [] ≡ part bs at end
-part_none bs at end stop e l =
-    ⊎_elim
-    (λ (k : end < length bs). ap (λ (n : ℕ). take n (drop at bs)) (let q : 0 ≡ end - at = omega arith in q))
-    (λ (k : length bs ≤ end). sym (ap (take (end - at)) (drop_all at bs (omega arith)) ∙ take_all (end - at) [] (omega arith)))
-    (cases_lt end (length bs))
-
 pub length_part : (bs : List ℕ) (at end : ℕ) → length (part bs at end) ≡ min (end - at) (length bs - at)
 length_part bs at end = length-take (end - at) (drop at bs) ∙ ap (min (end - at)) (length-drop at bs)
 

@@ -1,5 +1,6 @@
 -- Where elements lie in bytes, and what a reader of them hands out.
-use Rattle.std.specs.Prelude.{◌≡◌, ℕ, ◌+◌, ◌-◌, ◌<◌, ◌≤◌, List, take, drop, Ok, Err, Result}
+use Rattle.std.specs.Prelude.{◌≡◌, ℕ, ◌+◌, ◌<◌, ◌≤◌, List, Ok, Err, Result}
+use Rattle.areas.specs.Cuts.{between}
 use Rattle.der.specs.declared.cause.Cause.{Cause}
 use Rattle.der.specs.declared.fault.Fault.{Fault}
 use Rattle.der.specs.declared.header.Header.{Header}
@@ -9,7 +10,7 @@ use Rattle.der.specs.Trees.{Tree, Forest, encode, encodes, tag_of, body_of}
 
 -- the bytes from the offset `at` up to `end`
 abbrev pub part : List ℕ → ℕ → ℕ → List ℕ
-part bs at end = take (end - at) (drop at bs)
+part = between
 
 -- where the element lies whose header stands at `at`
 abbrev pub span_at : ℕ → Header → Span

@@ -24,7 +24,6 @@ pub use fault::Fault;
 pub use header::{Header, read_header};
 pub use laws::{laws_hold, samples_hold};
 pub use reader::Reader;
-pub use reading::part_of;
 pub use span::Span;
 pub use walking::{walk, walk_first, walk_one};
 pub use written::{HeaderBytes, header_size};

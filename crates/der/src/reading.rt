@@ -8,14 +8,7 @@ use crate::fault::Fault;
 use crate::header::{Header, read_header};
 use crate::reader::Reader;
 use crate::span::Span;
-
-/// The bytes from one offset up to another, as far as there are any.
-pub fn part_of<'a>(bytes: &'a [u8], at: usize, end: usize) -> &'a [u8]
-    ensures { result.now ≡ part bytes.now at end }
-{
-    let stop = end.min(bytes.len());
-    if at < stop { &bytes[at..stop] } else { &[] }
-}
+use areas::cut;
 
 /// Where the element lies whose header stands at `start`.
 fn locate(start: usize, header: Header) -> Span
@@ -64,7 +57,8 @@ impl<'a> Reader<'a> {
             (λ _. ⊥) }
     {
         let start = self.at;
-        match read_header(part_of(self.bytes, start, self.end)) {
+        // Two arms: with `map_err` and `?` the place would be added by a closure, which is no shorter here.
+        match read_header(cut(self.bytes, start, self.end)) {
             Err(cause) => Err(Fault {
                 place: start,
                 cause,
@@ -86,14 +80,14 @@ impl<'a> Element<'a> {
     pub fn whole(&self) -> &'a [u8]
         ensures { result.now ≡ part self.now.bytes.now self.now.span.start self.now.span.end }
     {
-        part_of(self.bytes, self.span.start, self.span.end)
+        cut(self.bytes, self.span.start, self.span.end)
     }
 
     /// The bytes behind the header.
     pub fn contents(&self) -> &'a [u8]
         ensures { result.now ≡ part self.now.bytes.now self.now.span.body self.now.span.end }
     {
-        part_of(self.bytes, self.span.body, self.span.end)
+        cut(self.bytes, self.span.body, self.span.end)
     }
 
     /// A reader of the elements inside, with offsets of the same bytes.

@@ -62,6 +62,7 @@ fn walk_element(bytes: &[u8], place: usize, levels: u8) -> Result<usize, Fault>
             cause: Cause::TooDeep,
         });
     }
+    // Two arms: with `map_err` and `?` the place would be added by a closure, which is no shorter here.
     match read_header(bytes) {
         Err(cause) => Err(Fault { place, cause }),
         Ok(Header { tag, head, size }) => {

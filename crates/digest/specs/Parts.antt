@@ -1,11 +1,8 @@
 -- A part of one of two slices.
-use Rattle.std.specs.Prelude.{ℕ, ◌-◌, List, take, drop}
+use Rattle.std.specs.Prelude.{ℕ, List}
+use Rattle.areas.specs.Cuts.{between}
 use Rattle.digest.specs.declared.part.Part.{Part}
 use Rattle.digest.specs.declared.part.Part.TheVariants.{Buffer, Detached}
-
--- the elements at the places from `from` up to `to` that the list has
-abbrev pub between : List ℕ → ℕ → ℕ → List ℕ
-between xs from to = take (to - from) (drop from xs)
 
 -- the bytes of a part
 abbrev pub part_of : List ℕ → List ℕ → Part → List ℕ

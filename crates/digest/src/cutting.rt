@@ -1,15 +1,5 @@
-//! Parts of slices: cut out, and copied into a block.
-ghost use Rattle.std.specs.Prelude.{◌≡◌};
-ghost use Rattle.digest.specs.Parts.{between};
+//! Parts of slices, copied into a block.
 ghost use Rattle.digest.specs.Read.{Read};
-
-/// The bytes at the places from `from` up to `to` that the slice has.
-pub(crate) fn clip(bytes: &[u8], from: usize, to: usize) -> &[u8]
-    ensures { result.now ≡ between bytes.now from to }
-{
-    let end = to.min(bytes.len());
-    if from < end { &bytes[from..end] } else { &[] }
-}
 
 /// The bytes from `place` on go to the front of the block, as many as both allow. Answers how many; the rest of the
 /// block stays.

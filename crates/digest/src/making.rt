@@ -3,19 +3,19 @@ ghost use Rattle.std.specs.Prelude.{◌≡◌};
 ghost use Rattle.digest.specs.Parts.{part_of};
 ghost use Rattle.digest.specs.Plains.{Made};
 
-use crate::cutting::clip;
 use crate::part::Part;
 use crate::plain::Plain;
 use crate::refusal::Refusal;
 use crate::source::MOST_BYTES;
+use areas::cut;
 
 /// The bytes of the part that its slice has; none where the part ends before it begins.
 pub fn part_of<'a>(buffer: &'a [u8], detached: &'a [u8], part: Part) -> &'a [u8]
     ensures { result.now ≡ part_of buffer.now detached.now part }
 {
     match part {
-        Part::Buffer { from, to } => clip(buffer, from, to),
-        Part::Detached { from, to } => clip(detached, from, to),
+        Part::Buffer { from, to } => cut(buffer, from, to),
+        Part::Detached { from, to } => cut(detached, from, to),
     }
 }
 

@@ -4,8 +4,9 @@ ghost use Rattle.std.proofs.Math.Nat.{min-le_left};
 ghost use Rattle.std.proofs.Common.{length-take};
 ghost use Rattle.digest.specs.Plains.{bytes_of};
 
-use crate::cutting::{clip, copy_part};
+use crate::cutting::copy_part;
 use crate::source::{MOST_BYTES, Source};
+use areas::cut;
 
 /// Borrowed bytes that are read as a source: the first 8,388,608 of them, and no maker takes more.
 #[derive(Clone, Copy)]
@@ -18,7 +19,7 @@ impl<'a> Plain<'a> {
     fn first(&self) -> &'a [u8]
         ensures { result.now ≡ bytes_of self.now }
     {
-        clip(self.bytes, 0, MOST_BYTES)
+        cut(self.bytes, 0, MOST_BYTES)
     }
 }
 

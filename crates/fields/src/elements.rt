@@ -10,6 +10,7 @@ pub fn read_any(reader: &mut Reader) -> Result<Span, usize>
     ensures { Reads any_of span_stop reader.old reader.new result }
 {
     let at = reader.at;
+    // Two arms: by `map` and `map_err` they would be two closures.
     match reader.next() {
         Err(_) => Err(at),
         Ok(element) => Ok(element.span),

@@ -9,9 +9,9 @@ ghost use Rattle.stamp_model.specs.Covering.{input_of};
 ghost use Rattle.imprint.specs.Inputs.{bytes_of, Found, Written};
 
 use crate::pieces::{Input, Short};
-use areas::put_all;
+use areas::{cut, put_all};
 use cms::{Message, Signer};
-use der::{Element, part_of};
+use der::Element;
 use digest::digesting::digest_pieces;
 use digest::interface::Digest;
 use digest::refusal::Refusal;
@@ -36,7 +36,7 @@ pub fn input_of<'a>(
     Input {
         content_type: content_type.whole(),
         content_digest,
-        fields: part_of(file, signer.whole.body, signer.signature.end),
+        fields: cut(file, signer.whole.body, signer.signature.end),
         index,
     }
 }

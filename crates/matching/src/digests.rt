@@ -2,6 +2,7 @@
 ghost use Rattle.std.specs.Prelude.{◌*◌, ◌≤◌};
 
 /// At most 64 digests of one size, one behind another.
+// An array with a size and a count: the calls use no heap.
 #[derive(Clone, Copy)]
 pub struct Digests {
     bytes: [u8; 4096],

@@ -19,6 +19,7 @@ pub fn read_stamp(token: &[u8]) -> Result<StampParts, StampFault>
     ensures { MatchResult result (StampAt token.now) (NoStamp token.now) }
 {
     let parts = read_token(token, TOKEN_LEVELS)?;
+    // What is behind the six fields is no field of its own.
     let behind = Reader {
         bytes: token,
         at: parts.signer.signature.end,

@@ -15,6 +15,7 @@ fn put_digests<G: Digest>(elements: Elements, area: &mut [u8]) -> usize
     ensures { (ts : List Tree) → Stand elements.entry ts → Put area.old area.new 0 (digests_bytes G.value ts) result }
 {
     let mut stop = 0;
+    // As entries are put in `index`: one function for both would take the writing as a closure over the area.
     for element in elements {
         stop = put_digest::<G>(area, stop, element.whole());
     }
@@ -35,6 +36,7 @@ fn has_part(bytes: &[u8], size: usize, count: usize, wanted: &[u8]) -> bool
     ensures { result ≡ Holds (parts count size bytes.now) wanted.now }
 {
     let mut at = 0;
+    // `chunks_exact` asks for a size above 0, which no clause says here, and the library has no lemma on what it yields.
     for _ in 0..count {
         if part_at(bytes, at, size) == wanted {
             return true;

@@ -4,6 +4,6 @@ use Rattle.compose.proofs.taking.leads_of.Goals as goal
 
 pub returns : goal.returns
 returns c = λ levels f s i k l. record {
-  front = c.part_of.ensures ∙ front_lies levels c.args.token.now c.args.parts.now f s i k l;
-  six = c.part_of-2.ensures ∙ six_lie c.args.token.now c.args.parts.now f s i l;
+  front = c.cut.ensures ∙ front_lies levels c.args.token.now c.args.parts.now f s i k l;
+  six = c.cut-2.ensures ∙ six_lie c.args.token.now c.args.parts.now f s i l;
 }

@@ -5,5 +5,5 @@ use Rattle.imprint.proofs.inputs.input_of.Goals as goal
 
 pub returns-clause-meaning : goal.returns-clause-meaning
 returns-clause-meaning c =
-    let input : Input = record { content_type = c.whole.result; content_digest = c.args.content_digest; fields = c.part_of.result; index = c.args.index } in
-    found_input _ _ _ _ _ input (record { content_type = c.whole.ensures; content = refl; fields = c.part_of.ensures; carried = refl })
+    let input : Input = record { content_type = c.whole.result; content_digest = c.args.content_digest; fields = c.cut.result; index = c.args.index } in
+    found_input _ _ _ _ _ input (record { content_type = c.whole.ensures; content = refl; fields = c.cut.ensures; carried = refl })

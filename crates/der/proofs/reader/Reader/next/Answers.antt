@@ -9,14 +9,14 @@ use Rattle.der.proofs.reader.Reader.next.Goals as goal
 
 pub locate-span-requires : goal.locate-span-requires
 locate-span-requires c =
-    let w = header_ends c.args.self.now.bytes.now c.args.self.now.at c.args.self.now.end c.in-Ok.header (ap header_of (sym c.part_of.ensures) ∙ sym c.in-Ok.ensures) in
+    let w = header_ends c.args.self.now.bytes.now c.args.self.now.at c.args.self.now.end c.in-Ok.header (ap header_of (sym c.cut.ensures) ∙ sym c.in-Ok.ensures) in
     omega (arith, w.2)
 
 pub returns-in-Err : goal.returns-in-Err
 returns-in-Err c =
     let at = c.args.self.now.at in
     let e : header_of (part c.args.self.now.bytes.now at c.args.self.now.end) ≡ Err c.in-Err.cause =
-    ap header_of (sym c.part_of.ensures) ∙ sym c.in-Err.ensures in
+    ap header_of (sym c.cut.ensures) ∙ sym c.in-Err.ensures in
     record {
       stands = (refl, refl);
       reads = record { read = ap (spanned at) e; stays = refl };
@@ -28,7 +28,7 @@ returns-in-Ok c =
     let bs = c.args.self.now.bytes.now in
     let at = c.args.self.now.at in
     let end = c.args.self.now.end in
-    let e : header_of (part bs at end) ≡ Ok c.in-Ok.header = ap header_of (sym c.part_of.ensures) ∙ sym c.in-Ok.ensures in
+    let e : header_of (part bs at end) ≡ Ok c.in-Ok.header = ap header_of (sym c.cut.ensures) ∙ sym c.in-Ok.ensures in
     let s : span_at at c.in-Ok.header ≡ c.locate-span.result = sym c.locate-span.ensures in
     record {
       stands = (refl, refl);

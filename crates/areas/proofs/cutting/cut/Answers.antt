@@ -1,6 +1,6 @@
 use Rattle.std.proofs.Common.{◌≡◌, ◌-◌, take, drop, sym, ap, ◌∙◌, arith}
-use Rattle.digest.proofs.Cuts.{take_to_end}
-use Rattle.digest.proofs.cutting.clip.Goals as goal
+use Rattle.areas.proofs.Cuts.{take_to_end}
+use Rattle.areas.proofs.cutting.cut.Goals as goal
 
 pub returns-then-from-end : goal.returns-then-from-end
 returns-then-from-end c = take_to_end _ _ _ _ c.min-end.ensures
