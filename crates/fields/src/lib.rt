@@ -2,6 +2,9 @@
 //!
 //! How bytes are read is defined in `specs/Reads.antt`. What is meant is a rule on trees, in `specs/Rules.antt`:
 //! the place of the first field that is missing, wrong or surplus. `proofs/Links.antt` joins the two, way by way.
+//!
+//! The error of each reader is that place alone, an offset and no code: there is nothing more to say of a break, and a
+//! caller names the case that it is, as by `map_err(MessageFault::Field)`.
 #![tactic(auto)]
 
 mod elements;
