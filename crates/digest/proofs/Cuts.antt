@@ -1,5 +1,5 @@
 -- Parts of lists that are cut where the list or a bound ends.
-use Rattle.std.proofs.Common.{◌≡◌, ℕ, ◌+◌, ◌-◌, ◌<◌, ◌≤◌, min, List, length, take, drop, sym, refl, ap, ◌∙◌, ⊎_elim, arith, length-drop, take_all}
+use Rattle.std.proofs.Common.{◌≡◌, ℕ, ◌+◌, ◌-◌, min, List, length, take, drop, sym, refl, ap, ◌∙◌, arith}
 use Rattle.areas.proofs.Cuts.{take_to_end}
 
 -- as many elements from a place on as a bound and the list allow
