@@ -29,7 +29,7 @@ loop-i-preserved g c =
 pub returns-in_err-take : goal.returns-in_err-take
 returns-in_err-take g c = λ xs is small.
     let all = g.S.Source.bytes c.args.source.now in
-    let few = g.S.Source.few c.args.source.now in
+    let few = g.met.S.Source.few c.args.source.now in
     let place = 4096 * c.loop-i.i in
     let many = c.read_at-count.ensures.many in
     let took = took_err _ _ _ _ _ (c.take.ensures _ (c.loop-i.invariant.1 xs is small)) c.in_err-take.was in
