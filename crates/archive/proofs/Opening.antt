@@ -1,5 +1,5 @@
 -- Opening a file, and one of its signers.
-use Rattle.std.proofs.Common.{◌≡◌, ℕ, zero, suc, ◌+◌, ◌-◌, List, [], ◌∷◌, take, Some, None, sym, refl, ap, ◌∙◌, subst, arith}
+use Rattle.std.proofs.Common.{◌≡◌, ℕ, zero, suc, ◌+◌, ◌-◌, List, [], ◌∷◌, take, Some, None, Ok, Err, Result, sym, refl, ap, ◌∙◌, subst, arith, MatchResult}
 use Rattle.std.specs.List.{slice_get}
 use Rattle.der.specs.declared.reader.Reader.{Reader}
 use Rattle.fields.specs.Rules.{head_size, body_size}
@@ -14,14 +14,28 @@ use Rattle.rules.proofs.SignerReading.{other_signers}
 use Rattle.message.specs.Formed.{LiesAt}
 use Rattle.message.specs.Lies.{SignerLies}
 use Rattle.message.proofs.Lying.{file_lies}
-use Rattle.archive.specs.declared.refusal.Refusal.TheVariants.{NoSigner}
-use Rattle.archive.specs.Accepted.{file_settings}
-use Rattle.archive.specs.Opened.{Opens, SignerOpened}
+use Rattle.archive.specs.declared.refusal.Refusal.{Refusal}
+use Rattle.archive.specs.declared.refusal.Refusal.TheVariants.{Length, Element, Field, Count, Rule, NoSigner}
+use Rattle.archive.specs.Accepted.{file_settings, Fits, Accepted}
+use Rattle.archive.specs.Steps.{AcceptedAt, RefusedFile}
+use Rattle.archive.specs.Opened.{Opens, OpensAt, Shut, SignerOpened}
 use Rattle.archive.specs.Outcome.{Refused}
 
 -- `&buffer[0..n]`
 pub front_is : (buffer : List ℕ) (n : ℕ) → take (n - 0) buffer ≡ take n buffer
 front_is buffer n = ap (λ (m : ℕ). take m buffer) (let e : n - 0 ≡ n = omega arith in e)
+
+shut_by : (buffer : List ℕ) (n : ℕ) (e : Refusal) → Fits buffer n → RefusedFile (take n buffer) e → Shut buffer n e
+shut_by buffer n Length h r = absurd r
+shut_by buffer n (Element fault) h r = (h, r)
+shut_by buffer n (Field p) h r = (h, r)
+shut_by buffer n (Count p) h r = (h, r)
+shut_by buffer n (Rule p) h r = (h, r)
+shut_by buffer n NoSigner h r = absurd r
+
+pub opens_by : (buffer : List ℕ) (n : ℕ) (r : Result Message Refusal) → Fits buffer n → MatchResult r (AcceptedAt (take (n - 0) buffer)) (RefusedFile (take (n - 0) buffer)) → MatchResult r (OpensAt buffer n) (Shut buffer n)
+opens_by buffer n (Ok m) h k = (k.0, record { fits = h; accepted = subst (λ (x : List ℕ). Accepted x k.0) (front_is buffer n) k.1 }, k.2)
+opens_by buffer n (Err e) h k = shut_by buffer n e h (subst (λ (x : List ℕ). RefusedFile x e) (front_is buffer n) k)
 
 signers_moved : (levels : ℕ) (bs bs' : List ℕ) (at at' end end' : ℕ) (ss : List Signer) → bs ≡ bs' → at ≡ at' → end ≡ end' → Signers levels bs at end ss → Signers levels bs' at' end' ss
 signers_moved levels bs bs' at at' end end' ss p q e r =

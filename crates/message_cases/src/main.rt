@@ -29,9 +29,7 @@ fn file_of(heap: Global, text: &str) -> Result<Option<Vec<u8>>, AllocError> {
     let Some(mut file) = read_hex(heap, digits.as_bytes())? else {
         return Ok(None);
     };
-    for _ in 0..zeros {
-        file.push(0)?;
-    }
+    file.resize(file.len().saturating_add(zeros as usize), 0)?;
     Ok(Some(file))
 }
 
