@@ -1,5 +1,5 @@
 -- The digits that the library `hex` writes are those of the definition.
-use Rattle.std.proofs.Common.{◌≡◌, ℕ, ◌/◌, ◌%◌, ◌<◌, List, [], ◌∷◌, get_or, refl, ap, ap₂, arith, below_more, below_none}
+use Rattle.std.proofs.Common.{◌≡◌, ℕ, ◌/◌, ◌%◌, ◌<◌, List, [], ◌∷◌, get_or, refl, ap₂, arith, below_more, below_none}
 use Rattle.hex.specs.Hex.{encode_lower, encode_with, lower_digits}
 use Rattle.digest.specs.Bytes.{Bytes}
 use Rattle.digest_line.specs.Hex.{digit_for, hex_of}
