@@ -42,6 +42,7 @@ impl<S: BlockState<N>, const N: usize> Stream<S, N> {
         ensures counts { self.old.count + length bytes.now < 2 ^ 64 → self.new.count ≡ self.old.count + length bytes.now }
     {
         let used = self.count % N;
+        // It wraps only past what `take` lets in, so that no caller has to show that the sum fits.
         self.count = self.count.wrapping_add(bytes.len());
         let room = N - used;
         if bytes.len() < room {

@@ -21,6 +21,7 @@ impl fmt::Display for Refusal {
     ghost output = { λ r. Some (refusal_text r) };
 
     fn fmt<W: fmt::Write>(&self, f: &mut fmt::Formatter<W>) -> fmt::Result {
+        // `archive` prints its own refusals so; the two have no crate in common but `der`, which prints nothing.
         match *self {
             Refusal::Length => f.write_str("refused 1 place 0 cause 0"),
             Refusal::Element(Fault { place, cause }) => {

@@ -1,4 +1,4 @@
-use Rattle.std.proofs.Common.{◌≡◌, ℕ, ◌-◌, List, Result, sym, refl, ap, ◌∙◌}
+use Rattle.std.proofs.Common.{◌≡◌, ℕ, ◌-◌, List, Result, sym, ap, ◌∙◌}
 use Rattle.cms.specs.declared.located.Signer.{Signer}
 use Rattle.cms.specs.Records.{signer_of, signer_stop}
 use Rattle.limits.specs.Past.{left_of, attributes_past, signers_past}
