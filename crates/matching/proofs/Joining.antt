@@ -1,13 +1,15 @@
 -- Digests one behind another.
-use Rattle.std.proofs.Common.{◌≡◌, ℕ, suc, ◌+◌, ◌-◌, ◌<◌, ◌≤◌, Bool, true, false, cond, List, [], ◌∷◌, ◌++◌, map, length, take, drop, sym, refl, ap, ◌∙◌, arith}
-use Rattle.std.proofs.lemmas.List.{append_assoc, append-nil, drop-drop, take_at, drop_at}
-use Rattle.std.proofs.lemmas.Bool.{cond-true, cond-false}
+use Rattle.std.proofs.Common.{◌≡◌, ℕ, zero, suc, ◌*◌, ◌≤◌, List, [], ◌∷◌, ◌++◌, map, length, take, drop, sym, refl, ap, ◌∙◌, subst, add-mul, arith}
+use Rattle.std.proofs.lemmas.List.{append_assoc, append-nil, length-append, length-take-le, take-append-drop, take_at, drop_at}
+use Rattle.std.proofs.lemmas.Iterator.{YieldsList}
 use Rattle.std.specs.List.{flat_map}
-use Rattle.std.specs.Str.{bytes_eq}
+use Rattle.std.specs.Iterator.{AlwaysYields}
+use Rattle.std.specs.Slice.Iter.{chunks_exact_rest, chunks_exact_size, chunks_exact_steps}
+use Rattle.std.specs.declared.slice.ChunksExact.{ChunksExact}
 use Rattle.der.specs.Trees.{Tree, encode}
 use Rattle.index.specs.Puts.{Put}
 use Rattle.index.proofs.Areas.{put_then, put_same}
-use Rattle.matching.specs.Lists.{parts, digests_bytes, holds}
+use Rattle.matching.specs.Lists.{parts, digests_bytes}
 
 digests_more : (D : List ℕ → List ℕ) (done : List Tree) (t : Tree) → digests_bytes D (done ++ (t ∷ [])) ≡ digests_bytes D done ++ D (encode t)
 digests_more D [] t = append-nil (D (encode t))
@@ -32,25 +34,25 @@ parts_joined D size sized (e ∷ es) rest =
     ∙ ap (λ (x : List ℕ). D e ∷ parts (length es) size x) (drop_at (D e) (flat_map D es ++ rest) size (sized e))
     ∙ ap (λ (x : List (List ℕ)). D e ∷ x) (parts_joined D size sized es rest)
 
--- a search among parts, from one part on
-module _ (bytes entry : List ℕ) (size count : ℕ) where
-  abbrev pub left : ℕ → ℕ → Bool
-  left k at = holds (parts (count - k) size (drop at bytes)) entry
+-- the bytes in front, cut into pieces of one size, are the parts
+module _ (size : ℕ) (some : 1 ≤ size) (rest : List ℕ) where
+  cut : (n : ℕ) (s : ChunksExact ℕ) → chunks_exact_size s ≡ size → length (chunks_exact_rest s) ≡ n * size →
+      AlwaysYields chunks_exact_steps (λ x. x.now) s (parts n size (chunks_exact_rest s ++ rest))
+  cut zero s width long = λ x t h. absurd (omega (arith, some, width, long, h.1.1, ap length h.1.0, length-append x.now (chunks_exact_rest t)))
+  cut (suc n) s width long = (
+    (λ t h. absurd (omega (arith, width, long, h.1.0, add-mul 1 n size))),
+    λ x t h.
+        let wide = h.1.1 ∙ width in
+        let split = ap (λ (z : List ℕ). z ++ rest) h.1.0 ∙ append_assoc x.now (chunks_exact_rest t) rest in
+        let left : length (chunks_exact_rest t) ≡ n * size = omega (arith, long, wide, ap length h.1.0, length-append x.now (chunks_exact_rest t), add-mul 1 n size) in (
+          sym (ap (take size) split ∙ take_at x.now _ size wide),
+          subst (λ (z : List ℕ). AlwaysYields chunks_exact_steps (λ y. y.now) t (parts n size z)) (sym (ap (drop size) split ∙ drop_at x.now _ size wide)) (cut n t (h.0 ∙ width) left),
+        ),
+  )
 
-  opened : (k at : ℕ) → k < count → left k at ≡ cond (bytes_eq (take size (drop at bytes)) entry) true (left (k + 1) (at + size))
-  opened k at l =
-      let n : count - k ≡ suc (count - (k + 1)) = omega arith in
-      ap (λ (m : ℕ). holds (parts m size (drop at bytes)) entry) n
-      ∙ ap (λ (x : List ℕ). cond (bytes_eq (take size (drop at bytes)) entry) true (holds (parts (count - (k + 1)) size x) entry)) (drop-drop size at bytes)
-
-  pub left_found : (k at : ℕ) → k < count → bytes_eq (take size (drop at bytes)) entry ≡ true → left k at ≡ true
-  left_found k at l e = opened k at l ∙ cond-true (bytes_eq (take size (drop at bytes)) entry) true _ e
-
-  pub left_missed : (k at : ℕ) → k < count → bytes_eq (take size (drop at bytes)) entry ≡ false → left k at ≡ left (k + 1) (at + size)
-  left_missed k at l e = opened k at l ∙ cond-false (bytes_eq (take size (drop at bytes)) entry) true _ e
-
-  pub left_all : left 0 0 ≡ holds (parts count size bytes) entry
-  left_all = let n : count - 0 ≡ count = omega arith in ap (λ (m : ℕ). holds (parts m size bytes) entry) n
-
-  pub left_none : (k at : ℕ) → count ≤ k → left k at ≡ false
-  left_none k at l = let n : count - k ≡ 0 = omega arith in ap (λ (m : ℕ). holds (parts m size (drop at bytes)) entry) n
+pub parts_yielded : (size count : ℕ) (bytes : List ℕ) (s : ChunksExact ℕ) → 1 ≤ size → count * size ≤ length bytes →
+    chunks_exact_rest s ≡ take (count * size) bytes → chunks_exact_size s ≡ size → YieldsList chunks_exact_steps (λ x. x.now) s (parts count size bytes)
+parts_yielded size count bytes s some room front width =
+    let whole = ap (λ (z : List ℕ). z ++ drop (count * size) bytes) front ∙ take-append-drop (count * size) bytes in
+    let long = ap length front ∙ length-take-le (count * size) bytes room in
+    record { runs = subst (λ (z : List ℕ). AlwaysYields chunks_exact_steps (λ x. x.now) s (parts count size z)) whole (cut size some (drop (count * size) bytes) count s width long) }

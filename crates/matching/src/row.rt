@@ -2,14 +2,14 @@
 use stamp_model::ListName;
 
 /// Whether an index has an entry for an element.
-#[derive(Clone, Copy)]
+#[derive(Clone, Copy, Debug, PartialEq, Eq)]
 pub enum Side {
     Outside = 0,
     Inside = 1,
 }
 
 /// An element of a file: its list, where it begins, how long it is with its header, and its side.
-#[derive(Clone, Copy)]
+#[derive(Clone, Copy, Debug, PartialEq, Eq)]
 pub struct Row {
     pub list: ListName,
     pub start: usize,
@@ -18,7 +18,7 @@ pub struct Row {
 }
 
 /// How many elements are on each side.
-#[derive(Clone, Copy)]
+#[derive(Clone, Copy, Debug, PartialEq, Eq)]
 pub struct Tally {
     pub inside: usize,
     pub outside: usize,

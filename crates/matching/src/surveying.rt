@@ -67,9 +67,7 @@ fn count_inside(rows: &[Row]) -> usize
     ensures value { result ≡ inside_in rows.now }
     ensures few { result ≤ length rows.now }
 {
-    rows.iter()
-        .filter(|row| matches!(row.side, Side::Inside))
-        .count()
+    rows.iter().filter(|row| row.side == Side::Inside).count()
 }
 
 /// Writes one row for each element of the three lists, in their order, to the front of the table, which has room for them.

@@ -1,9 +1,9 @@
 //! Digests, made and compared.
-ghost use Rattle.std.specs.Prelude.{◌≡◌, ℕ, ◌+◌, ◌*◌, ◌≤◌, List, map, length, take, drop};
+ghost use Rattle.std.specs.Prelude.{◌≡◌, ℕ, ◌*◌, ◌≤◌, List, map, length};
 ghost use Rattle.der.specs.Trees.{Tree, encode};
 ghost use Rattle.index.specs.Puts.{Put};
 ghost use Rattle.index.specs.Standing.{Stand};
-ghost use Rattle.matching.specs.Lists.{parts, digests_bytes, digests_in, holds as Holds};
+ghost use Rattle.matching.specs.Lists.{digests_bytes, digests_in, holds as Holds};
 
 use super::Digests;
 use digest::interface::Digest;
@@ -20,30 +20,6 @@ fn put_digests<G: Digest>(elements: Elements, area: &mut [u8]) -> usize
         stop = put_digest::<G>(area, stop, element.whole());
     }
     stop
-}
-
-/// The bytes behind the first `at`, so many.
-fn part_at(bytes: &[u8], at: usize, size: usize) -> &[u8]
-    requires { at + size ≤ length bytes.now }
-    ensures { result.now ≡ take size (drop at bytes.now) }
-{
-    &bytes[at..at + size]
-}
-
-/// Whether one of so many parts of a size is the bytes that are wanted.
-fn has_part(bytes: &[u8], size: usize, count: usize, wanted: &[u8]) -> bool
-    requires { count * size ≤ length bytes.now }
-    ensures { result ≡ Holds (parts count size bytes.now) wanted.now }
-{
-    let mut at = 0;
-    // `chunks_exact` asks for a size above 0, which no clause says here, and the library has no lemma on what it yields.
-    for _ in 0..count {
-        if part_at(bytes, at, size) == wanted {
-            return true;
-        }
-        at += size;
-    }
-    false
 }
 
 impl Digests {
@@ -65,6 +41,8 @@ impl Digests {
     pub fn holds(&self, wanted: &[u8]) -> bool
         ensures { result ≡ Holds (digests_in self.now) wanted.now }
     {
-        has_part(&self.bytes, self.size, self.count, wanted)
+        self.bytes[..self.count * self.size]
+            .chunks_exact(self.size)
+            .any(|digest| digest == wanted)
     }
 }

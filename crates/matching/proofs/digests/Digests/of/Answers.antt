@@ -11,7 +11,7 @@ pub put_digests-requires : goal.put_digests-requires
 put_digests-requires g c = mul-le c.args.elements.count g.G.Digest.size 64 64 c.requires g.met.G.Digest.small.1
 
 pub invariant_of-result : goal.invariant_of-result
-invariant_of-result g c = record { room = mul-le c.args.elements.count c.width.result 64 64 c.requires (omega (arith, c.width.ensures, g.met.G.Digest.small.1)) }
+invariant_of-result g c = record { some = omega (arith, c.width.ensures, g.met.G.Digest.small.0); room = mul-le c.args.elements.count c.width.result 64 64 c.requires (omega (arith, c.width.ensures, g.met.G.Digest.small.1)) }
 
 pub returns : goal.returns
 returns g c = λ ts s.
