@@ -57,21 +57,16 @@ impl<'a> Reader<'a> {
             (λ _. ⊥) }
     {
         let start = self.at;
-        // Two arms: with `map_err` and `?` the place would be added by a closure, which is no shorter here.
-        match read_header(cut(self.bytes, start, self.end)) {
-            Err(cause) => Err(Fault {
-                place: start,
-                cause,
-            }),
-            Ok(header) => {
-                let span = locate(start, header);
-                self.at = span.end;
-                Ok(Element {
-                    bytes: self.bytes,
-                    span,
-                })
-            }
-        }
+        let header = read_header(cut(self.bytes, start, self.end)).map_err(|cause| Fault {
+            place: start,
+            cause,
+        })?;
+        let span = locate(start, header);
+        self.at = span.end;
+        Ok(Element {
+            bytes: self.bytes,
+            span,
+        })
     }
 }
 

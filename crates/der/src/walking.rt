@@ -62,17 +62,12 @@ fn walk_element(bytes: &[u8], place: usize, levels: u8) -> Result<usize, Fault>
             cause: Cause::TooDeep,
         });
     }
-    // Two arms: with `map_err` and `?` the place would be added by a closure, which is no shorter here.
-    match read_header(bytes) {
-        Err(cause) => Err(Fault { place, cause }),
-        Ok(Header { tag, head, size }) => {
-            let end = head + size;
-            if is_constructed(tag) {
-                walk_elements(&bytes[head..end], place + head, levels - 1)?;
-            }
-            Ok(end)
-        }
+    let header = read_header(bytes).map_err(|cause| Fault { place, cause })?;
+    let end = header.head + header.size;
+    if is_constructed(header.tag) {
+        walk_elements(&bytes[header.head..end], place + header.head, levels - 1)?;
     }
+    Ok(end)
 }
 
 /// Whether the bytes, the first of which has the offset `place`, are elements back to back.

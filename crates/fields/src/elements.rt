@@ -10,11 +10,8 @@ pub fn read_any(reader: &mut Reader) -> Result<Span, usize>
     ensures { Reads any_of span_stop reader.old reader.new result }
 {
     let at = reader.at;
-    // Two arms: by `map` and `map_err` they would be two closures.
-    match reader.next() {
-        Err(_) => Err(at),
-        Ok(element) => Ok(element.span),
-    }
+    let element = reader.next().map_err(|_| at)?;
+    Ok(element.span)
 }
 
 /// The next element, whose tag must be one of those that are allowed.
