@@ -13,6 +13,8 @@ use digest::refusal::Refusal;
 pub struct Stream<S, const N: usize> {
     pub state: S,
     pub buffer: [u8; N],
+    // No bound here: `padded` counts the padding too, which may pass the most that a digest takes. The digests' own types
+    // have the bound.
     pub count: usize,
 }
 
