@@ -1,9 +1,10 @@
 //! Bytes in any pieces, given to a state in whole blocks.
-ghost use Rattle.std.specs.Prelude.{◌≡◌, ℕ, ◌+◌, ◌%◌, ◌^◌, ◌<◌, ◌≤◌, List, [], ◌++◌, length, take, drop};
+ghost use Rattle.std.specs.Prelude.{◌≡◌, ℕ, ◌+◌, ◌%◌, ◌^◌, ◌<◌, ◌≤◌, List, [], ◌++◌, length};
 ghost use Rattle.digest.specs.Took.{Took, most};
 ghost use Rattle.block_stream.specs.Streams.{Holds};
 
 use crate::block::{BlockState, take_blocks};
+use areas::put;
 use digest::interface::MOST_TAKEN;
 use digest::refusal::Refusal;
 
@@ -12,15 +13,9 @@ use digest::refusal::Refusal;
 pub struct Stream<S, const N: usize> {
     pub state: S,
     pub buffer: [u8; N],
+    // No bound here: `padded` counts the padding too, which may pass the most that a digest takes. The digests' own types
+    // have the bound.
     pub count: usize,
-}
-
-/// Writes the bytes over those of the buffer from the place on.
-fn put(buffer: &mut [u8], place: usize, bytes: &[u8])
-    requires { place + length bytes.now ≤ length buffer.old }
-    ensures { buffer.new ≡ take place buffer.old ++ (bytes.now ++ drop (place + length bytes.now) buffer.old) }
-{
-    buffer[place..place + bytes.len()].copy_from_slice(bytes);
 }
 
 impl<S: BlockState<N>, const N: usize> Stream<S, N> {

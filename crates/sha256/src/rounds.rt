@@ -5,6 +5,7 @@ ghost use Rattle.sha256.specs.Windows.{Slid, Reached};
 
 use crate::step::Step;
 use crate::words::Words;
+use std::array;
 
 const K: [u32; 64] = [
     0x428a2f98, 0x71374491, 0xb5c0fbcf, 0xe9b5dba5, 0x3956c25b, 0x59f111f1, 0x923f82a4, 0xab1c5ed5,
@@ -123,11 +124,7 @@ fn load(block: &[u8; 64], i: usize) -> u32
 fn first_window(block: &[u8; 64]) -> [u32; 16]
     ensures { Slid block.now 0 result }
 {
-    let mut window = [0; 16];
-    for i in 0..16 {
-        window[i] = load(block, i);
-    }
-    window
+    array::from_fn(|i| load(block, i))
 }
 
 fn add(s: Words, t: Words) -> Words

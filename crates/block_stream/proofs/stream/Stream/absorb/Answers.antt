@@ -11,8 +11,8 @@ returns-then-bytes-room-clause-holds g c = λ xs h few.
     let small : s.count % g.row.N + length ys < g.row.N = omega arith in
     let below : s.count + length ys < 2 ^ 64 = omega arith in
     let count : (s.count + length ys) % 2 ^ 64 ≡ s.count + length ys = mod-eq_of_lt below in
-    subst (λ m. Holds g.row.N g.S.BlockState.stands (record { state = s.state; buffer = c.put.new.buffer; count = m }) (xs ++ ys)) (sym count)
-    (holds_open g.row.N g.S.BlockState.stands s xs ys (s.count % g.row.N) refl (search rules) h c.put.new.buffer small c.put.ensures)
+    subst (λ m. Holds g.row.N g.S.BlockState.stands (record { state = s.state; buffer = c.put.new.area; count = m }) (xs ++ ys)) (sym count)
+    (holds_open g.row.N g.S.BlockState.stands s xs ys (s.count % g.row.N) refl (search rules) h c.put.new.area small c.put.ensures.area)
 
 pub returns-clause-holds : goal.returns-clause-holds
 returns-clause-holds g c = λ xs h few.
@@ -23,8 +23,8 @@ returns-clause-holds g c = λ xs h few.
     let fits : g.row.N - s.count % g.row.N ≤ length ys = c.if-bytes-room.false in
     let below : s.count + length ys < 2 ^ 64 = omega arith in
     let count : (s.count + length ys) % 2 ^ 64 ≡ s.count + length ys = mod-eq_of_lt below in
-    subst (λ m. Holds g.row.N g.S.BlockState.stands (record { state = c.take_blocks-state-2.result.0; buffer = c.put-3.new.buffer; count = m }) (xs ++ ys)) (sym count)
+    subst (λ m. Holds g.row.N g.S.BlockState.stands (record { state = c.take_blocks-state-2.result.0; buffer = c.put-3.new.area; count = m }) (xs ++ ys)) (sym count)
     (holds_closed g.row.N g.S.BlockState.stands s xs ys (s.count % g.row.N) refl (search rules) h
-    _ _ _ c.put-2.new.buffer c.put-3.new.buffer c.take_blocks-state.result.0 c.take_blocks-state-2.result.0 low fits
-    c.split_at.ensures.front c.split_at.ensures.back c.put-2.ensures c.take_blocks-state-2.ensures.left c.put-3.ensures
+    _ _ _ c.put-2.new.area c.put-3.new.area c.take_blocks-state.result.0 c.take_blocks-state-2.result.0 low fits
+    c.split_at.ensures.front c.split_at.ensures.back c.put-2.ensures.area c.take_blocks-state-2.ensures.left c.put-3.ensures.area
     c.take_blocks-state.ensures.taken c.take_blocks-state-2.ensures.taken)
