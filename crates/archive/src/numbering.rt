@@ -9,6 +9,7 @@ impl Refusal {
     pub fn number(self) -> u8
         ensures { result ≡ number_of self }
     {
+        // A match: cases carry values, so no cast gives the number.
         match self {
             Refusal::Length => 1,
             Refusal::Element(_) => 2,

@@ -35,6 +35,8 @@ fn tell(file: &[u8], opened: &Opened) -> Reading
     }
 }
 
+// A buffer and a length, and no slice: that is how callers hand over a file.
+
 /// The form and the policy of a signer of the file, the first `n` bytes of the buffer, and the counts of the file;
 /// or the first reason why the file is refused. Nothing is written.
 pub fn read(buffer: &[u8], n: usize, signer: usize) -> Result<Reading, Refusal>

@@ -8,7 +8,7 @@ use message::MessageFault;
 use std::fmt;
 
 /// The first reason, in the order of the cases.
-#[derive(Clone, Copy)]
+#[derive(Clone, Copy, Debug, PartialEq, Eq)]
 pub enum Refusal {
     /// The length is 0, above 65,535, or above that of the buffer.
     Length,

@@ -2,6 +2,8 @@
 use Rattle.std.specs.Prelude.{◌≡◌, ℕ, ◌<◌, ◌≤◌, List, length, vec_items, Result, MatchResult}
 use Rattle.der.specs.Trees.{Tree, Valid, Starts, encode}
 use Rattle.der.specs.Faults.{InElement}
+use Rattle.der.specs.declared.broken.Broken.{Broken}
+use Rattle.der.specs.declared.broken.Broken.TheVariants.{Faulty, Surplus as Behind}
 use Rattle.listing.specs.declared.refusal.Refusal.{Refusal}
 use Rattle.listing.specs.declared.refusal.Refusal.TheVariants.{Length, Element, Surplus}
 use Rattle.listing.specs.declared.outline.Outline.{Outline}
@@ -22,6 +24,11 @@ abbrev pub Refuses : List ℕ → Refusal → Type 0
 Refuses bs Length = Sized bs → ⊥
 Refuses bs (Element f) = Sized bs × InElement 32 bs 0 f
 Refuses bs (Surplus n) = Sized bs × Starts 32 bs n × (n < length bs)
+
+-- what is refused of bytes that are not one element
+abbrev pub refusal_of : Broken → Refusal
+refusal_of (Faulty f) = Element f
+refusal_of (Behind n) = Surplus n
 
 -- the outline has the lines of the file's one tree
 abbrev pub Lists : List ℕ → Outline → Type 0

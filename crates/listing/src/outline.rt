@@ -1,14 +1,13 @@
 //! The outline of a file.
 ghost use Rattle.std.specs.Prelude.{◌≡◌, IfOk, Some, string_bytes, vec_items, MatchResult};
-ghost use Rattle.listing.specs.Told.{Lists, NoOutline};
+ghost use Rattle.listing.specs.Told.{Lists, NoOutline, refusal_of};
 ghost use Rattle.listing.specs.Pages.{lines_text, TextOf};
 ghost use Rattle.listing.specs.declared.outline.OutlineError.TheVariants.{Refused, Memory};
-ghost use Rattle.listing.specs.declared.refusal.Refusal.TheVariants.{Element};
 
 use super::elements::list_elements;
 use super::line::Line;
 use super::refusal::Refusal;
-use der::{Fault, Reader, walk_first};
+use der::{Broken, Reader, walk_one};
 use std::alloc::{AllocError, Global};
 use std::fmt;
 
@@ -33,11 +32,14 @@ pub enum OutlineError {
     Memory(AllocError),
 }
 
-impl From<Fault> for OutlineError {
-    ghost from_gives = { λ fault error. error ≡ Refused (Element fault) };
+impl From<Broken> for OutlineError {
+    ghost from_gives = { λ broken error. error ≡ Refused (refusal_of broken) };
 
-    fn from(fault: Fault) -> OutlineError {
-        OutlineError::Refused(Refusal::Element(fault))
+    fn from(broken: Broken) -> OutlineError {
+        match broken {
+            Broken::Faulty(fault) => OutlineError::Refused(Refusal::Element(fault)),
+            Broken::Surplus(end) => OutlineError::Refused(Refusal::Surplus(end)),
+        }
     }
 }
 
@@ -56,10 +58,7 @@ pub fn make_outline(heap: Global, bytes: &[u8]) -> Result<Outline, OutlineError>
     if bytes.is_empty() || bytes.len() > LONGEST {
         return Err(OutlineError::Refused(Refusal::Length));
     }
-    let end = walk_first(bytes, LEVELS)?;
-    if end < bytes.len() {
-        return Err(OutlineError::Refused(Refusal::Surplus(end)));
-    }
+    walk_one(bytes, LEVELS)?;
     let mut lines = Vec::new(heap);
     list_elements(&mut lines, Reader::new(bytes), 1)?;
     Ok(Outline { lines })
@@ -72,7 +71,7 @@ pub fn tell_outline(heap: Global, bytes: &[u8]) -> Result<String, AllocError>
     match make_outline(heap, bytes) {
         Ok(outline) => outline.to_string(heap),
         Err(OutlineError::Refused(refusal)) => format!(in heap; "{refusal}\n"),
-        Err(OutlineError::Memory(short)) => Err(short),
+        Err(OutlineError::Memory(error)) => Err(error),
     }
 }
 

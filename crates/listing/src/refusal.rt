@@ -6,7 +6,7 @@ use der::Fault;
 use std::fmt;
 
 /// The first reason, in this order, to refuse a file.
-#[derive(Clone, Copy)]
+#[derive(Clone, Copy, Debug, PartialEq, Eq)]
 pub enum Refusal {
     /// It is empty, or longer than 65,535 bytes.
     Length,

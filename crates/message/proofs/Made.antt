@@ -35,6 +35,13 @@ mapped_from post (Err e) s d k q =
     let same : p.0 ≡ d = cc in
     (e, refl, subst (post e) same p.2)
 
+-- the same, where the closure's meaning says which error each becomes
+pub mapped_told : {X E D : Type 0} {post : E → D → Type 0} (told : E → D) (r : Result X E) (s : Result X D) (d : D) → MatchResult r (λ y. s ≡ Ok y) (λ e. IsErrAnd s (post e)) → s ≡ Err d →
+    ((e : E) (x : D) → post e x → x ≡ told e) → (e : E) × (r ≡ Err e) × (d ≡ told e)
+mapped_told {post = post} told r s d k q meaning =
+    let m = mapped_from post r s d k q in
+    (m.0, m.1, meaning m.0 d m.2)
+
 -- what stands behind the first element
 pub whole_part : (file : List ℕ) → part file 0 (length file) ≡ file
 whole_part file = take_all (length file - 0) file (omega arith)

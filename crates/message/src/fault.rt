@@ -5,7 +5,7 @@ ghost use Rattle.message.specs.declared.fault.MessageFault.TheVariants.{Element}
 use der::Fault;
 
 /// The first of these that applies.
-#[derive(Clone, Copy)]
+#[derive(Clone, Copy, Debug, PartialEq, Eq)]
 pub enum MessageFault {
     /// An element is at fault.
     Element(Fault),

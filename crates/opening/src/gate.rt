@@ -8,6 +8,8 @@ use crate::refusal::Refusal;
 use archive::{Opened, Reading};
 use cms::Message;
 
+// A buffer and a length, and no slice: that is how callers hand over a file.
+
 /// Where the parts lie of the file, the first `n` bytes of the buffer; or the first reason why it is refused.
 pub fn open_file(buffer: &[u8], n: usize) -> Result<Message, Refusal>
     ensures { MatchResult result (OpensAt buffer.now n) (Shut buffer.now n) }

@@ -9,6 +9,7 @@ impl Refusal {
     pub fn number(self) -> u8
         ensures { result ≡ number_of self }
     {
+        // A match: cases carry values, so no cast gives the number.
         match self {
             Refusal::Unread(unread) => unread.number(),
             Refusal::NoList => 7,
@@ -46,6 +47,7 @@ impl Refusal {
         match self {
             Refusal::Unread(unread) => unread.cause(),
             Refusal::AddedElement(fault) => fault.cause.number(),
+            // The definition names each case: a new one is not passed over.
             _ => 0,
         }
     }

@@ -5,7 +5,7 @@ ghost use Rattle.opening.specs.declared.refusal.Refusal.TheVariants.{Unread};
 use der::Fault;
 
 /// The first reason, in the order of the cases.
-#[derive(Clone, Copy)]
+#[derive(Clone, Copy, Debug, PartialEq, Eq)]
 pub enum Refusal {
     /// The file cannot be read, or its signer is not there.
     Unread(archive::Refusal),

@@ -17,7 +17,7 @@ pub struct StampParts {
 }
 
 /// What is at fault with a stamp, the token first.
-#[derive(Clone, Copy)]
+#[derive(Clone, Copy, Debug, PartialEq, Eq)]
 pub enum StampFault {
     Token(TokenFault),
     /// The token's signer does not carry just one index: the place of the field that is missing, wrong or surplus.

@@ -27,18 +27,15 @@ pub fn read_stamp(token: &[u8]) -> Result<StampParts, StampFault>
     };
     let span = read_carried(behind).map_err(StampFault::Carried)?;
     let index = Element { bytes: token, span };
-    // A match: with `map_err` the closure that adds the place would need a clause of its own.
-    match read_index_bytes(index.whole(), INDEX_LEVELS) {
-        Err(fault) => Err(StampFault::Index {
-            at: span.start,
-            fault,
-        }),
-        Ok(entries) => Ok(StampParts {
-            token: parts,
-            index: span,
-            entries,
-        }),
-    }
+    let entries = read_index_bytes(index.whole(), INDEX_LEVELS).map_err(|fault| StampFault::Index {
+        at: span.start,
+        fault,
+    })?;
+    Ok(StampParts {
+        token: parts,
+        index: span,
+        entries,
+    })
 }
 
 /// Where the parts lie of a token without unsigned attributes, which a stamp can be made of; or what is at fault.

@@ -18,7 +18,7 @@ pub struct TokenParts {
 }
 
 /// What is at fault with a token, the message first.
-#[derive(Clone, Copy)]
+#[derive(Clone, Copy, Debug, PartialEq, Eq)]
 pub enum TokenFault {
     Message(MessageFault),
     /// The contents of its octet string, which begin at `at`; places of the fault count from there.

@@ -41,17 +41,14 @@ pub fn read_token(token: &[u8], levels: u8) -> Result<TokenParts, TokenFault>
         bytes: token,
         span: octets,
     };
-    // A match: with `map_err` the closure that adds the place would need a clause of its own.
-    match read_info(contents.contents()) {
-        Err(fault) => Err(TokenFault::Info {
-            at: octets.body,
-            fault,
-        }),
-        Ok(info) => Ok(TokenParts {
-            message,
-            signer,
-            octets,
-            info,
-        }),
-    }
+    let info = read_info(contents.contents()).map_err(|fault| TokenFault::Info {
+        at: octets.body,
+        fault,
+    })?;
+    Ok(TokenParts {
+        message,
+        signer,
+        octets,
+        info,
+    })
 }
