@@ -27,10 +27,12 @@ pub fn read_stamp(token: &[u8]) -> Result<StampParts, StampFault>
     };
     let span = read_carried(behind).map_err(StampFault::Carried)?;
     let index = Element { bytes: token, span };
-    let entries = read_index_bytes(index.whole(), INDEX_LEVELS).map_err(|fault| StampFault::Index {
-        at: span.start,
-        fault,
-    })?;
+    let entries = read_index_bytes(index.whole(), INDEX_LEVELS).map_err(
+        |fault| StampFault::Index {
+            at: span.start,
+            fault,
+        },
+    )?;
     Ok(StampParts {
         token: parts,
         index: span,
