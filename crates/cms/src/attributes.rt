@@ -33,6 +33,7 @@ impl Located for Attribute {
     }
 }
 
+// As `Signers`: one type for both would need a method for the span in `Located`.
 pub(crate) struct Attributes;
 
 impl Entry for Attributes {

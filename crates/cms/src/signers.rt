@@ -67,6 +67,7 @@ impl Located for Signer {
     }
 }
 
+// As `Attributes`: one type for both would need a method for the span in `Located`.
 pub(crate) struct Signers;
 
 impl Entry for Signers {

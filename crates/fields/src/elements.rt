@@ -5,6 +5,8 @@ ghost use Rattle.fields.specs.Reads.{Reads, FindsOptional, Tells, whole_of, any_
 use crate::located::Number;
 use der::{Element, Reader, Span};
 
+// A reader's error is an offset, here and above: all there is to say of a break. Callers name the case.
+
 /// The next element, whatever its tag; where there is none, the place where the contents end.
 pub fn read_any(reader: &mut Reader) -> Result<Span, usize>
     ensures { Reads any_of span_stop reader.old reader.new result }

@@ -21,6 +21,7 @@ fn put_entries<G: Digest>(elements: Elements, area: &mut [u8], at: usize) -> usi
     ensures few { result ≤ at + elements.entry.count * framed_size_of G.size }
     ensures entries { (ts : List Tree) → Stand elements.entry ts → Put area.old area.new at (entries_bytes G.value ts) result }
 {
+    // As digests are put in `matching`: one function for both would take the writing as a closure over the area.
     let mut stop = at;
     for element in elements {
         stop = put_entry::<G>(area, stop, element.whole());

@@ -21,6 +21,8 @@ fn find_misplaced(file: &[u8], unsigned: Option<Entries>) -> Option<usize>
     first_misplaced(unsigned?.inside(file))
 }
 
+// `SignerThere` is a premise of three promises here: in a type it would be asked of callers.
+
 /// The place of the first rule that a signer's attributes break: the signer itself where one is lacking.
 fn broken_by(file: &[u8], signer: Signer, content_type: &[u8]) -> Option<usize>
     ensures { (levels p : ℕ) (s : Person) (expected : Tree) → SignerThere levels file.now signer p s

@@ -18,6 +18,8 @@ const K: [u32; 64] = [
     0x748f82ee, 0x78a5636f, 0x84c87814, 0x8cc70208, 0x90befffa, 0xa4506ceb, 0xbef9a3f7, 0xc67178f2,
 ];
 
+// The short answers of these functions stay: the tactic's list of definitions cannot name those with Greek letters.
+
 /// In this form it costs least: no complement.
 fn choose(x: u32, y: u32, z: u32) -> u32
     ensures { result ≡ Ch x y z }

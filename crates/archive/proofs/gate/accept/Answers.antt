@@ -1,3 +1,4 @@
+-- Tried without: the check does not find it.
 use Rattle.std.proofs.Common.{sym}
 use Rattle.message.proofs.Lying.{file_lies}
 use Rattle.archive.specs.Accepted.{file_settings}

@@ -1,3 +1,4 @@
+-- Tried without: the check does not find it.
 use Rattle.std.proofs.Common.{Ok, Err}
 use Rattle.std.proofs.lemmas.Result.{IfOk-weaker}
 use Rattle.listing.proofs.outline.tell_outline.Goals as goal

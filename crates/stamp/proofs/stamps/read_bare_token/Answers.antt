@@ -1,3 +1,4 @@
+-- Tried without: the check does not find it.
 use Rattle.stamp.proofs.Bare.{burdened, bare}
 use Rattle.stamp.proofs.stamps.read_bare_token.Goals as goal
 
