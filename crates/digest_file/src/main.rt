@@ -79,6 +79,7 @@ fn take_block(rt: &HostRuntime, digests: &mut Digests) -> Result<usize, InputErr
 
 /// Gives all of standard input to the digests.
 fn take_input(rt: &HostRuntime, digests: &mut Digests) -> Result<(), InputError> {
+    // Nothing but the input says when it ends, and every function is proved to end: more turns than it can have.
     for _ in 0..u64::MAX {
         if take_block(rt, digests)? == 0 {
             break;
