@@ -3,6 +3,7 @@ use Rattle.std.proofs.Common.{◌≡◌, ℕ, zero, suc, ◌+◌, ◌-◌, ◌*�
 use Rattle.std.proofs.Math.Nat.{div-mul-le_self, mod-add-div', mod-lt, mod_self, mul-add-mod_self_right, mul-mod_left, suc-mul, zero-mul}
 use Rattle.std.proofs.lemmas.List.{append-nil, append_assoc, drop-drop, drop_all, take-append-drop, take_at}
 use Rattle.std.specs.Simd.{first_chunks}
+use Rattle.areas.specs.Overlays.{Overlaid}
 use Rattle.block_stream.specs.Streams.{Holds}
 use Rattle.block_stream.specs.declared.stream.Stream.{Stream}
 
@@ -46,25 +47,43 @@ module _ {S : Type 0} (n : ℕ) (stands : S → List ℕ → Type 0) where
     counts = let counted = h.counted in omega (arith, length-append xs ys)
 
     -- the bytes leave the block open
-    pub holds_open : (buffer : List ℕ) → u + length ys < n → buffer ≡ left ++ (ys ++ drop (u + length ys) s.buffer) → Holds n stands (record { state = s.state; buffer = buffer; count = s.count + length ys }) (xs ++ ys)
-    holds_open buffer small put =
+    pub holds_open : (buffer : List ℕ) (end : ℕ) → u + length ys < n → Overlaid s.buffer buffer u ys end → Holds n stands (record { state = s.state; buffer = buffer; count = s.count + length ys }) (xs ++ ys)
+    holds_open buffer end small put =
         let size : length left ≡ u = simp length-take (omega arith) in
         let all = length-append left ys in
         made (record { state = s.state; buffer = buffer; count = s.count + length ys }) (xs ++ ys) h.blocks (left ++ ys) counts h.whole h.chained (omega arith)
-        (ap (take (length (left ++ ys))) (put ∙ sym (append_assoc left ys (drop (u + length ys) s.buffer))) ∙ take_at (left ++ ys) (drop (u + length ys) s.buffer) (length (left ++ ys)) refl)
+        (ap (take (length (left ++ ys))) ((put.fits (omega arith)).1 ∙ sym (append_assoc left ys (drop (u + length ys) s.buffer))) ∙ take_at (left ++ ys) (drop (u + length ys) s.buffer) (length (left ++ ys)) refl)
         (ap (λ z. z ++ ys) before ∙ append_assoc h.blocks left ys)
 
+    -- nothing is left over, and whole blocks follow
+    pub holds_straight : (over b : List ℕ) (end : ℕ) (s2 : S) → 0 < n → u ≡ 0 → over ≡ drop (length ys / n * n) ys → Overlaid s.buffer b 0 over end
+        → ((zs : List ℕ) → length zs % n ≡ 0 → stands s.state zs → stands s2 (zs ++ take (length ys / n * n) ys))
+        → Holds n stands (record { state = s2; buffer = b; count = s.count + length ys }) (xs ++ ys)
+    holds_straight over b end s2 some none e put t =
+        let k = length ys / n in
+        let front = take (k * n) ys in
+        let many : length front ≡ k * n = let l = div-mul-le_self (length ys) n in simp length-take (omega arith) in
+        let short : length over < n = rw e (let m = mod-add-div' (length ys) n in let r : length ys % n < n = mod-lt (length ys) some in simp length-drop (omega arith)) in
+        let whole : length (h.blocks ++ front) % n ≡ 0 =
+        ap (λ m. m % n) (length-append h.blocks front) ∙ after_whole (length h.blocks) (length front) n h.whole ∙ ap (λ m. m % n) many ∙ mul-mod_left k n in
+        let tail : ys ≡ front ++ over = sym (ap (λ z. front ++ z) e ∙ take-append-drop (k * n) ys) in
+        let alone : xs ≡ h.blocks = before ∙ ap (λ m. h.blocks ++ take m s.buffer) none ∙ append-nil h.blocks in
+        let all : xs ++ ys ≡ (h.blocks ++ front) ++ over =
+        ap (λ z. z ++ ys) alone ∙ ap (λ z. h.blocks ++ z) tail ∙ sym (append_assoc h.blocks front over) in
+        made (record { state = s2; buffer = b; count = s.count + length ys }) (xs ++ ys) (h.blocks ++ front) over counts whole (t h.blocks h.whole h.chained) short
+        (ap (take (length over)) (put.fits (omega (arith, short))).1 ∙ take_at over (drop (0 + length over) s.buffer) (length over) refl) all
+
     -- the bytes close the block, and whole blocks follow; `rest` is what stands behind the first block's bytes
-    pub holds_closed : (first rest over b1 b2 : List ℕ) (s1 s2 : S) → u < n → n - u ≤ length ys → first ≡ take (n - u) ys → rest ≡ drop (n - u) ys → b1 ≡ left ++ (first ++ drop (u + length first) s.buffer) → over ≡ drop (length rest / n * n) rest → b2 ≡ take 0 b1 ++ (over ++ drop (0 + length over) b1)
+    pub holds_closed : (first rest over b1 b2 : List ℕ) (end1 end2 : ℕ) (s1 s2 : S) → u < n → n - u ≤ length ys → first ≡ take (n - u) ys → rest ≡ drop (n - u) ys → Overlaid s.buffer b1 u first end1 → over ≡ drop (length rest / n * n) rest → Overlaid b1 b2 0 over end2
         → ((zs : List ℕ) → length zs % n ≡ 0 → stands s.state zs → stands s1 (zs ++ take (length b1 / n * n) b1)) → ((zs : List ℕ) → length zs % n ≡ 0 → stands s1 zs → stands s2 (zs ++ take (length rest / n * n) rest))
         → Holds n stands (record { state = s2; buffer = b2; count = s.count + length ys }) (xs ++ ys)
-    holds_closed first rest over b1 b2 s1 s2 low fits e1 e2 p1 e4 p2 t1 t2 =
+    holds_closed first rest over b1 b2 end1 end2 s1 s2 low fits e1 e2 put1 e4 put2 t1 t2 =
         let k = length rest / n in
         let size : length left ≡ u = simp length-take (omega arith) in
         let part : length first ≡ n - u = ap length e1 ∙ simp length-take (omega arith) in
         let full : u + length first ≡ length s.buffer = omega arith in
         let block : b1 ≡ left ++ first =
-        p1 ∙ ap (λ z. left ++ (first ++ z)) (drop_all (u + length first) s.buffer (omega arith)) ∙ ap (λ z. left ++ z) (append-nil first) in
+        (put1.fits (omega arith)).1 ∙ ap (λ z. left ++ (first ++ z)) (drop_all (u + length first) s.buffer (omega arith)) ∙ ap (λ z. left ++ z) (append-nil first) in
         let width : length (b1) ≡ n = ap length block ∙ length-append left first ∙ omega arith in
         let alone : length b1 / n * n ≡ length b1 = let m = mod-add-div' (length b1) n in let z = mod_self n in omega (arith, ap (λ l. l % n) width) in
         let same : take (length b1 / n * n) b1 ≡ b1 = take_all (length b1 / n * n) b1 (omega arith) in
@@ -83,7 +102,7 @@ module _ {S : Type 0} (n : ℕ) (stands : S → List ℕ → Type 0) where
         ∙ ap (λ z. h.blocks ++ (z ++ rest)) (sym block) ∙ sym (append_assoc h.blocks (b1) rest) ∙ ap (λ z. one ++ z) tail ∙ sym (append_assoc one (front) over) in
         made (record { state = s2; buffer = b2; count = s.count + length ys }) (xs ++ ys) (one ++ front) over counts whole2
         (t2 one whole1 (subst (λ z. stands s1 (h.blocks ++ z)) same (t1 h.blocks h.whole h.chained))) short
-        (ap (take (length over)) p2 ∙ take_at over (drop (0 + length over) b1) (length over) refl) all
+        (ap (take (length over)) (put2.fits (omega (arith, short, width))).1 ∙ take_at over (drop (0 + length over) b1) (length over) refl) all
 
   -- where nothing is left over, the state stands for all bytes
   pub holds_whole : (s : Stream S n) (xs : List ℕ) → length xs % n ≡ 0 → Holds n stands s xs → stands s.state xs

@@ -31,7 +31,7 @@ impl<S: BlockState<N>, const N: usize> Stream<S, N> {
         }
     }
 
-    /// Takes the bytes, whole blocks straight from the slice.
+    /// Takes the bytes, whole blocks straight from the slice, but for one that is begun in the buffer.
     fn absorb(&mut self, bytes: &[u8])
         ensures holds { (xs : List ℕ) → Holds N S.stands self.old xs → length xs + length bytes.now < 2 ^ 64 → Holds N S.stands self.new (xs ++ bytes.now) }
         ensures counts { self.old.count + length bytes.now < 2 ^ 64 → self.new.count ≡ self.old.count + length bytes.now }
@@ -39,6 +39,12 @@ impl<S: BlockState<N>, const N: usize> Stream<S, N> {
         let used = self.count % N;
         // It wraps only past what `take` lets in, so that no caller has to show that the sum fits.
         self.count = self.count.wrapping_add(bytes.len());
+        if used == 0 {
+            let (state, left) = take_blocks(self.state, bytes);
+            self.state = state;
+            put(&mut self.buffer, 0, left);
+            return;
+        }
         let room = N - used;
         if bytes.len() < room {
             put(&mut self.buffer, used, bytes);

@@ -1,5 +1,5 @@
 //! The content of a message and its type.
-ghost use Rattle.std.specs.Prelude.{◌≡◌, IfOk};
+ghost use Rattle.std.specs.Prelude.{◌≡◌, IfOk, Ok};
 ghost use Rattle.fields.specs.Reads.{Reads};
 ghost use Rattle.cms.specs.declared.settings.ContentForm.TheVariants.{Any, TimeStampInfo};
 ghost use Rattle.cms.specs.Records.{content_in, plain_in, info_in, info_of, info_stop};
@@ -8,8 +8,8 @@ use crate::located::{Content, ContentInfo};
 use crate::settings::ContentForm;
 use der::{Reader, Span};
 use fields::{
-    Entries, Octets, count, enter, expect, expect_identifier, finish, read_any, read_optional,
-    read_whole,
+    Entries, Inside, Octets, count, enter, expect, expect_identifier, finish, read_any,
+    read_optional, read_whole,
 };
 
 /// The content type of time-stamp tokens.
@@ -60,11 +60,25 @@ fn read_any_info(reader: &Reader, whole: Span) -> Result<ContentInfo, usize>
     })
 }
 
+/// An element as it lies, whatever is inside.
+#[derive(Clone, Copy)]
+struct AsItLies;
+
+impl Inside for AsItLies {
+    type Parts = Span;
+
+    ghost outcome = { λ _ _ whole. Ok whole };
+
+    fn read(&self, _: &Reader, whole: Span) -> Result<Span, usize> {
+        Ok(whole)
+    }
+}
+
 /// One octet string in its field, and nothing more.
 fn read_plain(reader: &Reader, field: Span) -> Result<Span, usize>
     ensures { result ≡ plain_in reader.now.bytes.now field }
 {
-    read_whole(enter(reader, field), 0x04, |_, octets| Ok(octets))
+    read_whole(enter(reader, field), 0x04, &AsItLies)
 }
 
 /// The content of a time-stamp token.

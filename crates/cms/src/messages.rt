@@ -14,7 +14,8 @@ use crate::settings::Settings;
 use crate::signers::count_signers;
 use der::{Reader, Span};
 use fields::{
-    Entries, enter, expect, expect_identifier, finish, read_maybe_list, read_number, read_whole,
+    Entries, Inside, enter, expect, expect_identifier, finish, read_maybe_list, read_number,
+    read_whole,
 };
 
 /// The content type of signed data.
@@ -31,58 +32,72 @@ fn check_version(place: usize, version: u8) -> Result<(), usize>
 }
 
 /// The fields of signed data.
-fn read_data(reader: &Reader, whole: Span, settings: Settings) -> Result<Message, usize>
-    ensures { result ≡ data_in settings reader.now.bytes.now whole }
-{
-    let mut inside = enter(reader, whole);
-    let version = read_number(&mut inside)?;
-    check_version(whole.body, version.value)?;
-    let digests = expect(&mut inside, 0x31)?;
-    let info = read_info(&mut inside, settings.content)?;
-    let certificates = read_maybe_list::<Certificates>(&mut inside, 0xa0)?;
-    let revocations = read_maybe_list::<Revocations>(&mut inside, 0xa1)?;
-    let field = expect(&mut inside, 0x31)?;
-    let count = count_signers(enter(&inside, field), settings.signers)?;
-    finish(&inside)?;
-    Ok(Message {
-        whole,
-        version: version.element,
-        digests,
-        info,
-        certificates,
-        revocations,
-        signers: Entries { field, count },
-    })
+#[derive(Clone, Copy)]
+struct DataFields {
+    settings: Settings,
+}
+
+impl Inside for DataFields {
+    type Parts = Message;
+
+    ghost outcome = { λ fields. data_in fields.settings };
+
+    fn read(&self, reader: &Reader, whole: Span) -> Result<Message, usize> {
+        let mut inside = enter(reader, whole);
+        let version = read_number(&mut inside)?;
+        check_version(whole.body, version.value)?;
+        let digests = expect(&mut inside, 0x31)?;
+        let info = read_info(&mut inside, self.settings.content)?;
+        let certificates = read_maybe_list::<Certificates>(&mut inside, 0xa0)?;
+        let revocations = read_maybe_list::<Revocations>(&mut inside, 0xa1)?;
+        let field = expect(&mut inside, 0x31)?;
+        let count = count_signers(enter(&inside, field), self.settings.signers)?;
+        finish(&inside)?;
+        Ok(Message {
+            whole,
+            version: version.element,
+            digests,
+            info,
+            certificates,
+            revocations,
+            signers: Entries { field, count },
+        })
+    }
 }
 
 /// The signed data in its field.
 fn read_signed_data(reader: &Reader, field: Span, settings: Settings) -> Result<Message, usize>
     ensures { result ≡ signed_data_in settings reader.now.bytes.now field }
 {
-    read_whole(enter(reader, field), 0x30, |inside, whole| {
-        read_data(&inside, whole, settings)
-    })
+    read_whole(enter(reader, field), 0x30, &DataFields { settings })
 }
 
 /// The fields of a message.
-fn read_fields(reader: &Reader, whole: Span, settings: Settings) -> Result<Message, usize>
-    ensures { result ≡ message_in settings reader.now.bytes.now whole }
-{
-    let mut inside = enter(reader, whole);
-    expect_identifier(&mut inside, &SIGNED_DATA)?;
-    let field = expect(&mut inside, 0xa0)?;
-    let message = read_signed_data(&inside, field, settings)?;
-    finish(&inside)?;
-    Ok(message)
+#[derive(Clone, Copy)]
+struct MessageFields {
+    settings: Settings,
+}
+
+impl Inside for MessageFields {
+    type Parts = Message;
+
+    ghost outcome = { λ fields. message_in fields.settings };
+
+    fn read(&self, reader: &Reader, whole: Span) -> Result<Message, usize> {
+        let mut inside = enter(reader, whole);
+        expect_identifier(&mut inside, &SIGNED_DATA)?;
+        let field = expect(&mut inside, 0xa0)?;
+        let message = read_signed_data(&inside, field, self.settings)?;
+        finish(&inside)?;
+        Ok(message)
+    }
 }
 
 /// The message that stands from the reader's offset to its end, or the place of the first break.
 fn read_parts(reader: Reader, settings: Settings) -> Result<Message, usize>
     ensures { result ≡ message_of settings reader.entry.bytes.now reader.entry.at reader.entry.end }
 {
-    read_whole(reader, 0x30, |outside, whole| {
-        read_fields(&outside, whole, settings)
-    })
+    read_whole(reader, 0x30, &MessageFields { settings })
 }
 
 /// Where the parts lie of the message that stands from the reader's offset to its end,

@@ -1,18 +1,36 @@
 //! A line with a digest in hexadecimal digits.
-ghost use Rattle.std.specs.Prelude.{◌≡◌, ℕ, ◌≤◌, List, ◌++◌, take, IfOk};
-ghost use Rattle.digest_line.specs.Hex.{hex_of};
+ghost use Rattle.std.specs.Prelude.{◌≡◌, ℕ, ◌<◌, ◌≤◌, List, ◌++◌, take, IfOk, OnOk};
+ghost use Rattle.digest_line.specs.Hex.{digit_for, hex_of};
 
 use digest::interface::Digest;
 use std::alloc::{AllocError, Global};
+
+// Not the library `hex`: the digits would be written by a crate that is trusted as it comes built.
+
+fn digit(n: u8) -> u8
+    requires { n < 16 }
+    ensures { result ≡ digit_for n }
+{
+    if n < 10 { b'0' + n } else { b'a' + (n - 10) }
+}
+
+/// Appends the bytes, each as two digits.
+fn push_hex(text: &mut Vec<u8>, bytes: &[u8]) -> Result<(), AllocError>
+    ensures { OnOk result (text.new.items ≡ text.old.items ++ hex_of bytes.now) }
+{
+    for b in bytes {
+        text.extend_from_slice(&[digit(*b / 16), digit(*b % 16)])?;
+    }
+    Ok(())
+}
 
 /// The text `front`, the bytes in hexadecimal digits, and the text `end`. Fails only for want of memory.
 pub fn hex_line(heap: Global, front: &[u8], bytes: &[u8], end: &[u8]) -> Result<Vec<u8>, AllocError>
     ensures { IfOk result (λ line. line.items ≡ (front.now ++ hex_of bytes.now) ++ end.now) }
 {
-    let digits = hex::encode(heap, bytes)?;
     let mut line = Vec::new(heap);
     line.extend_from_slice(front)?;
-    line.extend_from_slice(digits.as_bytes())?;
+    push_hex(&mut line, bytes)?;
     line.extend_from_slice(end)?;
     Ok(line)
 }

@@ -1,8 +1,10 @@
 //! Single elements of a message, read in turn.
-ghost use Rattle.std.specs.Prelude.{◌≡◌, ℕ, Bool, List, Result, MatchResult};
-ghost use Rattle.fields.specs.Reads.{Reads, FindsOptional, Tells, whole_of, any_of, allowed_of, expect_of, optional_of, finish_of, number_of, named_of, span_stop, number_stop};
+ghost use Rattle.std.specs.Prelude.{◌≡◌, MatchResult};
+ghost use Rattle.fields.specs.Reads.{Reads, FindsOptional, whole_of, any_of, allowed_of, expect_of, optional_of, finish_of, number_of, named_of, span_stop, number_stop};
 
+use crate::inside::Inside;
 use crate::located::Number;
+use crate::tag_set::{Only, TagSet};
 use der::{Element, Reader, Span};
 
 // A reader's error is an offset, here and above: all there is to say of a break. Callers name the case.
@@ -17,13 +19,12 @@ pub fn read_any(reader: &mut Reader) -> Result<Span, usize>
 }
 
 /// The next element, whose tag must be one of those that are allowed.
-pub fn read_allowed<F: FnOnce(u8) -> bool>(reader: &mut Reader, allows: F) -> Result<Span, usize>
-    requires { F.IsAlwaysCallable allows }
-    ensures { (tags : ℕ → Bool) → Tells (F.post allows) tags → Reads (allowed_of tags) span_stop reader.old reader.new result }
+pub fn read_allowed<T: TagSet>(reader: &mut Reader, allowed: &T) -> Result<Span, usize>
+    ensures { Reads (allowed_of (T.tags allowed.now)) span_stop reader.old reader.new result }
 {
     let at = reader.at;
     let element = read_any(reader)?;
-    if allows(element.tag) {
+    if allowed.contains(element.tag) {
         Ok(element)
     } else {
         Err(at)
@@ -34,7 +35,7 @@ pub fn read_allowed<F: FnOnce(u8) -> bool>(reader: &mut Reader, allows: F) -> Re
 pub fn expect(reader: &mut Reader, tag: u8) -> Result<Span, usize>
     ensures { Reads (expect_of tag) span_stop reader.old reader.new result }
 {
-    read_allowed(reader, |other| other == tag)
+    read_allowed(reader, &Only { tag })
 }
 
 /// The next element, if it has the tag.
@@ -70,20 +71,14 @@ pub fn finish(reader: &Reader) -> Result<(), usize>
 }
 
 /// One element with the tag, what its fields are, and nothing behind it.
-pub fn read_whole<'a, T: Copy, F: FnOnce(Reader<'a>, Span) -> Result<T, usize>>(
-    reader: Reader<'a>,
-    tag: u8,
-    fields: F,
-) -> Result<T, usize>
-    requires { F.IsAlwaysCallable fields }
-    ensures { (inside : List ℕ → Span → Result T ℕ) → ((r : Reader) (e : Span) (x : Result T ℕ) → F.post fields r e x → x ≡ inside r.bytes.now e)
-        → result ≡ whole_of tag inside reader.entry.bytes.now reader.entry.at reader.entry.end }
+pub fn read_whole<I: Inside>(reader: Reader, tag: u8, fields: &I) -> Result<I::Parts, usize>
+    ensures { result ≡ whole_of tag (I.outcome fields.now) reader.entry.bytes.now reader.entry.at reader.entry.end }
 {
     let mut outside = reader;
     let whole = expect(&mut outside, tag)?;
-    let read = fields(outside, whole)?;
+    let parts = fields.read(&outside, whole)?;
     finish(&outside)?;
-    Ok(read)
+    Ok(parts)
 }
 
 /// The next element, tagged 02, of one byte.

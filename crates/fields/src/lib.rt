@@ -9,15 +9,19 @@
 
 mod elements;
 mod entries;
+mod inside;
 mod kinds;
 mod located;
 mod run;
+mod tag_set;
 
 pub use elements::{
     enter, expect, expect_identifier, finish, read_allowed, read_any, read_number, read_optional,
     read_whole,
 };
 pub use entries::{Entry, count, count_some, read_list, read_maybe_list};
+pub use inside::Inside;
 pub use kinds::{Anything, Octets};
 pub use located::{Entries, Number};
 pub use run::{Located, Run};
+pub use tag_set::TagSet;

@@ -4,7 +4,7 @@
 #[derive(Clone, Copy, Debug, PartialEq, Eq)]
 pub enum Full {
     /// The file would have more than 65,535 bytes.
-    TooLong,
+    TooLong = 1,
     /// The file would be longer than its buffer.
-    NoRoom,
+    NoRoom = 2,
 }

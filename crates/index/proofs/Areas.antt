@@ -3,7 +3,7 @@ use Rattle.std.proofs.Common.{◌≡◌, ℕ, ◌+◌, ◌-◌, ◌<◌, ◌≤�
 use borrow.Rule.Slice.PartMut.{put_mid}
 use Rattle.std.proofs.lemmas.List.{append_assoc, append-nil, drop-drop, length-append, take-append-drop, take_more_set}
 use Rattle.std.proofs.lemmas.Slice.{take-put_mid, drop-put_mid}
-use Rattle.areas.specs.Overlays.{overlay}
+use Rattle.areas.specs.Overlays.{Overlaid}
 use Rattle.areas.proofs.Overlays.{overlay_front, overlay_rest}
 use Rattle.index.specs.Puts.{Put, Written}
 
@@ -53,10 +53,11 @@ module _ {X : Type 0} where
     front = sym (take-append-drop end is) ∙ ap (λ (x : List X). x ++ drop end is) p.front ∙ ap (λ (x : List X). new ++ x) p.rest;
   }
 
--- what is put over an area, in words of the area
-pub overlay_put : (was is new : List ℕ) (at end : ℕ) → end ≡ at + length new → is ≡ overlay at new was → at + length new ≤ length was → Put was is at new end
-overlay_put was is new at end e q l =
+-- what is put over an area where it fits, in words of the area
+pub overlay_put : (was is new : List ℕ) (at end : ℕ) → Overlaid was is at new end → at + length new ≤ length was → Put was is at new end
+overlay_put was is new at end put l =
     let within : at ≤ length was = omega arith in
+    let (e, q) = put.fits l in
     record {
       ends = e;
       front = ap (λ (n : ℕ). take n is) e ∙ ap (take (at + length new)) q ∙ overlay_front at new was within;

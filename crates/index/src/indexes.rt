@@ -10,7 +10,7 @@ ghost use Rattle.index.specs.Records.{algorithm_stop, has_algorithm_of, maybe_al
 use crate::algorithms::read_algorithm;
 use crate::located::{AlgorithmParts, IndexParts};
 use der::{Reader, Span};
-use fields::{Octets, enter, expect, finish, read_list, read_whole};
+use fields::{Inside, Octets, enter, expect, finish, read_list, read_whole};
 
 /// Whether the next element stands for an algorithm: it is tagged 30, and its first element 06.
 fn has_algorithm(reader: &Reader) -> bool
@@ -35,29 +35,36 @@ fn read_maybe_algorithm(reader: &mut Reader) -> Result<Option<AlgorithmParts>, u
 }
 
 /// The fields of an index.
-fn read_fields(reader: &Reader, whole: Span) -> Result<IndexParts, usize>
-    ensures { result ≡ index_in reader.now.bytes.now whole }
-{
-    let mut inside = enter(reader, whole);
-    let algorithm = read_maybe_algorithm(&mut inside)?;
-    let certificates = read_list::<Octets>(&mut inside, 0x30)?;
-    let revocations = read_list::<Octets>(&mut inside, 0x30)?;
-    let attributes = read_list::<Octets>(&mut inside, 0x30)?;
-    finish(&inside)?;
-    Ok(IndexParts {
-        whole,
-        algorithm,
-        certificates,
-        revocations,
-        attributes,
-    })
+#[derive(Clone, Copy)]
+struct IndexFields;
+
+impl Inside for IndexFields {
+    type Parts = IndexParts;
+
+    ghost outcome = { λ _. index_in };
+
+    fn read(&self, reader: &Reader, whole: Span) -> Result<IndexParts, usize> {
+        let mut inside = enter(reader, whole);
+        let algorithm = read_maybe_algorithm(&mut inside)?;
+        let certificates = read_list::<Octets>(&mut inside, 0x30)?;
+        let revocations = read_list::<Octets>(&mut inside, 0x30)?;
+        let attributes = read_list::<Octets>(&mut inside, 0x30)?;
+        finish(&inside)?;
+        Ok(IndexParts {
+            whole,
+            algorithm,
+            certificates,
+            revocations,
+            attributes,
+        })
+    }
 }
 
 /// The index that stands from the reader's offset to its end, or the place of the first break.
 fn read_parts(reader: Reader) -> Result<IndexParts, usize>
     ensures { result ≡ index_parts_of reader.entry.bytes.now reader.entry.at reader.entry.end }
 {
-    read_whole(reader, 0x30, |outside, whole| read_fields(&outside, whole))
+    read_whole(reader, 0x30, &IndexFields)
 }
 
 /// Where the parts lie of the index that stands from the reader's offset to its end,

@@ -3,7 +3,7 @@ ghost use Rattle.std.specs.Prelude.{◌≡◌};
 ghost use Rattle.stamp.specs.Records.{value_in, attribute_in, unsigned_in, carried_of};
 
 use der::{Reader, Span};
-use fields::{enter, expect, expect_identifier, finish, read_any, read_whole};
+use fields::{Inside, enter, expect, expect_identifier, finish, read_any, read_whole};
 
 /// The type of the attribute that carries an index.
 const INDEX: [u8; 6] = [0x04, 0x00, 0x8d, 0x45, 0x02, 0x05];
@@ -19,24 +19,36 @@ fn read_value(reader: &Reader, set: Span) -> Result<Span, usize>
 }
 
 /// The one value of an attribute of the type of indexes.
-fn read_attribute(reader: &Reader, whole: Span) -> Result<Span, usize>
-    ensures { result ≡ attribute_in reader.now.bytes.now whole }
-{
-    let mut inside = enter(reader, whole);
-    expect_identifier(&mut inside, &INDEX)?;
-    let set = expect(&mut inside, 0x31)?;
-    let value = read_value(&inside, set)?;
-    finish(&inside)?;
-    Ok(value)
+#[derive(Clone, Copy)]
+struct IndexAttribute;
+
+impl Inside for IndexAttribute {
+    type Parts = Span;
+
+    ghost outcome = { λ _. attribute_in };
+
+    fn read(&self, reader: &Reader, whole: Span) -> Result<Span, usize> {
+        let mut inside = enter(reader, whole);
+        expect_identifier(&mut inside, &INDEX)?;
+        let set = expect(&mut inside, 0x31)?;
+        let value = read_value(&inside, set)?;
+        finish(&inside)?;
+        Ok(value)
+    }
 }
 
 /// The value of the one attribute in the field of unsigned attributes.
-fn read_unsigned(reader: &Reader, field: Span) -> Result<Span, usize>
-    ensures { result ≡ unsigned_in reader.now.bytes.now field }
-{
-    read_whole(enter(reader, field), 0x30, |inside, attribute| {
-        read_attribute(&inside, attribute)
-    })
+#[derive(Clone, Copy)]
+struct UnsignedField;
+
+impl Inside for UnsignedField {
+    type Parts = Span;
+
+    ghost outcome = { λ _. unsigned_in };
+
+    fn read(&self, reader: &Reader, field: Span) -> Result<Span, usize> {
+        read_whole(enter(reader, field), 0x30, &IndexAttribute)
+    }
 }
 
 /// Where the index lies that is carried behind the six fields of a signer: the reader stands there, and ends where the
@@ -44,7 +56,5 @@ fn read_unsigned(reader: &Reader, field: Span) -> Result<Span, usize>
 pub(crate) fn read_carried(reader: Reader) -> Result<Span, usize>
     ensures { result ≡ carried_of reader.entry.bytes.now reader.entry.at reader.entry.end }
 {
-    read_whole(reader, 0xa1, |outside, field| {
-        read_unsigned(&outside, field)
-    })
+    read_whole(reader, 0xa1, &UnsignedField)
 }

@@ -5,7 +5,7 @@ ghost use Rattle.token.specs.Records.{imprint_in, version_of, info_in, info_of};
 
 use crate::located::{ImprintParts, InfoParts};
 use der::{Reader, Span, walk_first};
-use fields::{enter, expect, finish, read_number, read_whole};
+use fields::{Inside, enter, expect, finish, read_number, read_whole};
 use index::read_algorithm;
 use message::MessageFault;
 
@@ -35,27 +35,34 @@ fn check_version(place: usize, version: u8) -> Result<(), usize>
 }
 
 /// The fields up to the imprint.
-fn read_fields(reader: &Reader, whole: Span) -> Result<InfoParts, usize>
-    ensures { result ≡ info_in reader.now.bytes.now whole }
-{
-    let mut inside = enter(reader, whole);
-    let version = read_number(&mut inside)?;
-    check_version(whole.body, version.value)?;
-    let policy = expect(&mut inside, 0x06)?;
-    let field = expect(&mut inside, 0x30)?;
-    let imprint = read_imprint(&inside, field)?;
-    Ok(InfoParts {
-        whole,
-        policy,
-        imprint,
-    })
+#[derive(Clone, Copy)]
+struct InfoFields;
+
+impl Inside for InfoFields {
+    type Parts = InfoParts;
+
+    ghost outcome = { λ _. info_in };
+
+    fn read(&self, reader: &Reader, whole: Span) -> Result<InfoParts, usize> {
+        let mut inside = enter(reader, whole);
+        let version = read_number(&mut inside)?;
+        check_version(whole.body, version.value)?;
+        let policy = expect(&mut inside, 0x06)?;
+        let field = expect(&mut inside, 0x30)?;
+        let imprint = read_imprint(&inside, field)?;
+        Ok(InfoParts {
+            whole,
+            policy,
+            imprint,
+        })
+    }
 }
 
 /// What is told from the reader's offset to its end, or the place of the first break.
 fn read_parts(reader: Reader) -> Result<InfoParts, usize>
     ensures { result ≡ info_of reader.entry.bytes.now reader.entry.at reader.entry.end }
 {
-    read_whole(reader, 0x30, |outside, whole| read_fields(&outside, whole))
+    read_whole(reader, 0x30, &InfoFields)
 }
 
 // Walked and read as `message::read_formed` does: a function for both would take the reading with its clauses, and be longer.

@@ -1,5 +1,4 @@
 use Rattle.std.proofs.Common.{ℕ, List, ◌++◌, length, arith}
-use Rattle.std.proofs.lemmas.List.{length-append}
 use Rattle.areas.specs.Pieces.{joined}
 use Rattle.grow.proofs.Overlays.{filled_both}
 use Rattle.grow.proofs.Inserts.{at_within, grown_least, grown_stale, grown_wrapped}
@@ -14,42 +13,14 @@ open_gap-requires c =
       room = omega (arith, c.requires.size, grown_least c.args.self.now _ _ new p.0 p.1 p.2 p.3, p.4.room);
     }
 
-pub put-behind-requires : goal.put-behind-requires
-put-behind-requires c =
-    let p = c.requires.spot in
-    let new : List ℕ = c.args.header.now ++ joined c.args.pieces.now in
-    omega (
-      arith,
-      at_within c.args.self.now _ _ new p.0 p.1 p.2 p.3,
-      grown_least c.args.self.now _ _ new p.0 p.1 p.2 p.3,
-      p.4.room,
-      length-append c.args.header.now (joined c.args.pieces.now),
-      c.open_gap.ensures.same_buffer.room,
-    )
-
-pub put_all-requires : goal.put_all-requires
-put_all-requires c =
-    let p = c.requires.spot in
-    let new : List ℕ = c.args.header.now ++ joined c.args.pieces.now in
-    omega (
-      arith,
-      at_within c.args.self.now _ _ new p.0 p.1 p.2 p.3,
-      grown_least c.args.self.now _ _ new p.0 p.1 p.2 p.3,
-      p.4.room,
-      length-append c.args.header.now (joined c.args.pieces.now),
-      c.open_gap.ensures.same_buffer.room,
-      c.put-behind.ensures.ends,
-      c.put-behind.auto.area,
-    )
-
 pub rewrap-requires : goal.rewrap-requires
 rewrap-requires c =
     let (fs, pre, post, s, fit) = c.requires.spot in
     let new : List ℕ = c.args.header.now ++ joined c.args.pieces.now in
     let g = c.args.self.now in
-    let a = at_within g _ _ new fs pre post s in
-    let put = filled_both g.buffer.now _ _ _ g.end c.args.at c.put-behind.result c.args.size c.args.header.now (joined c.args.pieces.now) a g.within
-    (omega (arith, g.within, c.open_gap.ensures.same_buffer.room)) c.requires.size c.open_gap.ensures.parted c.put-behind.ensures.ends c.put-behind.ensures.area c.put_all.ensures.area in
+    let put = filled_both g.buffer.now _ _ _ g.end c.args.at _ _ c.args.size c.args.header.now (joined c.args.pieces.now) (at_within g _ _ new fs pre post s) g.within
+    (omega (arith, c.requires.size, grown_least g _ _ new fs pre post s, fit.room, c.open_gap.ensures.same_buffer.room)) (omega (arith, c.put-behind.auto.area)) c.requires.size
+    c.open_gap.ensures.parted c.put-behind.ensures c.put_all.ensures in
     record {
       path = (
         fs,
@@ -62,11 +33,12 @@ rewrap-requires c =
 
 pub returns-clause-wrapped : goal.returns-clause-wrapped
 returns-clause-wrapped c fs pre post s =
+    let p = c.requires.spot in
     let new : List ℕ = c.args.header.now ++ joined c.args.pieces.now in
     let g = c.args.self.now in
-    let a = at_within g _ _ new fs pre post s in
-    let put = filled_both g.buffer.now _ _ _ g.end c.args.at c.put-behind.result c.args.size c.args.header.now (joined c.args.pieces.now) a g.within
-    (omega (arith, g.within, c.open_gap.ensures.same_buffer.room)) c.requires.size c.open_gap.ensures.parted c.put-behind.ensures.ends c.put-behind.ensures.area c.put_all.ensures.area in
+    let put = filled_both g.buffer.now _ _ _ g.end c.args.at _ _ c.args.size c.args.header.now (joined c.args.pieces.now) (at_within g _ _ new fs pre post s) g.within
+    (omega (arith, c.requires.size, grown_least g _ _ new p.0 p.1 p.2 p.3, p.4.room, c.open_gap.ensures.same_buffer.room)) (omega (arith, c.put-behind.auto.area)) c.requires.size
+    c.open_gap.ensures.parted c.put-behind.ensures c.put_all.ensures in
     grown_wrapped g _ _ new fs pre post s
     (c.rewrap.ensures.wrapped fs (length (pre ++ post)) (pre ++ (new ++ post)) (grown_stale g _ _ new fs pre post s _ _ _ put c.requires.size c.open_gap.ensures.end))
     put
