@@ -14,19 +14,18 @@ pub trait BlockState<const N: usize>: Copy {
     ghost sized: { (0 < N) × (N < 2 ^ 32) };
 }
 
-/// The state after the whole blocks of the bytes, and the bytes that are left over.
+/// Gives the state the whole blocks of the bytes; answers the bytes that are left over.
 /// The one place that takes a block: there the state stays in registers from block to block.
 pub(crate) fn take_blocks<'a, S: BlockState<N>, const N: usize>(
-    state: S,
+    state: &mut S,
     bytes: &'a [u8],
-) -> (S, &'a [u8])
-    ensures taken { (xs : List ℕ) → length xs % N ≡ 0 → S.stands state xs → S.stands result.0 (xs ++ take (length bytes.now / N * N) bytes.now) }
-    ensures left { result.1.now ≡ drop (length bytes.now / N * N) bytes.now }
+) -> &'a [u8]
+    ensures taken { (xs : List ℕ) → length xs % N ≡ 0 → S.stands state.old xs → S.stands state.new (xs ++ take (length bytes.now / N * N) bytes.now) }
+    ensures left { result.now ≡ drop (length bytes.now / N * N) bytes.now }
 {
     let (blocks, left) = bytes.as_chunks::<N>();
-    let mut taken = state;
     for block in blocks {
-        taken.take_block(block);
+        state.take_block(block);
     }
-    (taken, left)
+    left
 }

@@ -1,6 +1,7 @@
 //! Bytes in any pieces, given to a state in whole blocks.
 ghost use Rattle.std.specs.Prelude.{◌≡◌, ℕ, ◌+◌, ◌%◌, ◌^◌, ◌<◌, ◌≤◌, List, [], ◌++◌, length};
 ghost use Rattle.digest.specs.Took.{Took, most};
+ghost use Rattle.areas.specs.Overlays.{Overlaid};
 ghost use Rattle.block_stream.specs.Streams.{Holds};
 
 use crate::block::{BlockState, take_blocks};
@@ -16,6 +17,19 @@ pub struct Stream<S, const N: usize> {
     // No bound here: `padded` counts the padding too, which may pass the most that a digest takes. The digests' own types
     // have the bound.
     pub count: usize,
+}
+
+/// Writes the bytes as `put` does; one alone is stored, which costs less than the call that copies any number.
+fn put_few(area: &mut [u8], at: usize, bytes: &[u8]) -> usize
+    ensures { Overlaid area.old area.new at bytes.now result }
+{
+    match bytes {
+        [byte] if at < area.len() => {
+            area[at] = *byte;
+            at + 1
+        }
+        _ => put(area, at, bytes),
+    }
 }
 
 impl<S: BlockState<N>, const N: usize> Stream<S, N> {
@@ -36,26 +50,24 @@ impl<S: BlockState<N>, const N: usize> Stream<S, N> {
         ensures holds { (xs : List ℕ) → Holds N S.stands self.old xs → length xs + length bytes.now < 2 ^ 64 → Holds N S.stands self.new (xs ++ bytes.now) }
         ensures counts { self.old.count + length bytes.now < 2 ^ 64 → self.new.count ≡ self.old.count + length bytes.now }
     {
-        let used = self.count % N;
-        // It wraps only past what `take` lets in, so that no caller has to show that the sum fits.
-        self.count = self.count.wrapping_add(bytes.len());
-        if used == 0 {
-            let (state, left) = take_blocks(self.state, bytes);
-            self.state = state;
-            put(&mut self.buffer, 0, left);
-            return;
-        }
+        let count = self.count;
+        let used = count % N;
         let room = N - used;
         if bytes.len() < room {
-            put(&mut self.buffer, used, bytes);
-            return;
+            put_few(&mut self.buffer, used, bytes);
+        } else if used == 0 {
+            let left = take_blocks(&mut self.state, bytes);
+            put(&mut self.buffer, 0, left);
+        } else {
+            let (first, rest) = bytes.split_at(room);
+            put_few(&mut self.buffer, used, first);
+            take_blocks(&mut self.state, &self.buffer);
+            let left = take_blocks(&mut self.state, rest);
+            put(&mut self.buffer, 0, left);
         }
-        let (first, rest) = bytes.split_at(room);
-        put(&mut self.buffer, used, first);
-        let (state, _) = take_blocks(self.state, &self.buffer);
-        let (state, left) = take_blocks(state, rest);
-        self.state = state;
-        put(&mut self.buffer, 0, left);
+        // It wraps only past what `take` lets in, so that no caller has to show that the sum fits. It is written last, so that it
+        // stays in a register where the calls stand in a loop.
+        self.count = count.wrapping_add(bytes.len());
     }
 
     /// Takes the bytes, or refuses them where there would be more than a digest takes.

@@ -31,6 +31,6 @@ returns g c =
     let bytes = c.args.bytes.now in
     let all : c.loop-block.block-index ≡ length bytes / n = omega (arith, c.as_chunks.ensures.front_len) in
     record {
-      taken = λ xs e is. subst (λ k. g.S.BlockState.stands c.loop-block.taken (xs ++ take (k * n) bytes)) all (c.loop-block.invariant xs e is);
+      taken = λ xs e is. subst (λ k. g.S.BlockState.stands c.loop-block.state (xs ++ take (k * n) bytes)) all (c.loop-block.invariant xs e is);
       left = c.as_chunks.ensures.back;
     }

@@ -3,4 +3,4 @@ use Rattle.block_stream.proofs.block.take_blocks.Given as goal
 
 abbrev pub invariant-loop-block : goal.invariant-loop-block
 invariant-loop-block g l =
-    (xs : List ℕ) → length xs % g.row.N ≡ 0 → g.S.BlockState.stands l.initial.taken xs → g.S.BlockState.stands l.taken (xs ++ take (l.block-index * g.row.N) l.bytes)
+    (xs : List ℕ) → length xs % g.row.N ≡ 0 → g.S.BlockState.stands l.initial.state xs → g.S.BlockState.stands l.state (xs ++ take (l.block-index * g.row.N) l.bytes)
