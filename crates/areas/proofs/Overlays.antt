@@ -1,7 +1,18 @@
 -- What an area holds once bytes are put into it.
-use Rattle.std.proofs.Common.{◌≡◌, ℕ, ◌+◌, ◌≤◌, List, ◌++◌, length, take, drop, sym, ap, ◌∙◌, arith}
-use Rattle.std.proofs.lemmas.List.{append_assoc, drop-drop, drop_at, take_at, length-take-le, length-append}
+use Rattle.std.proofs.Common.{◌≡◌, ℕ, ◌+◌, ◌≤◌, List, [], ◌++◌, length, take, drop, sym, ap, ◌∙◌, add-zero, arith}
+use borrow.Rule.Slice.PartMut.{put_mid}
+use Rattle.std.proofs.lemmas.List.{append_assoc, take-append-drop, drop-drop, drop_at, take_at, length-take-le, length-append}
 use Rattle.areas.specs.Overlays.{overlay}
+
+-- a part that is written is written over
+pub written_over : (at k : ℕ) (area new part : List ℕ) → k ≡ length new → part ≡ new → put_mid at k area part ≡ overlay at new area
+written_over at k area new part e q =
+    ap (λ (x : List ℕ). take at area ++ (x ++ drop k (drop at area))) q
+    ∙ ap (λ (x : List ℕ). take at area ++ (new ++ x)) (drop-drop k at area ∙ ap (λ (x : ℕ). drop (at + x) area) e)
+
+-- nothing is written over nothing
+pub overlay_none : (at : ℕ) (area : List ℕ) → area ≡ overlay at [] area
+overlay_none at area = sym (take-append-drop at area) ∙ ap (λ (x : ℕ). take at area ++ drop x area) (sym (add-zero at))
 
 module _ (at : ℕ) (new area : List ℕ) (l : at ≤ length area) where
   cut : length (take at area ++ new) ≡ at + length new

@@ -9,7 +9,7 @@ use crate::settings::ContentForm;
 use der::{Reader, Span};
 use fields::{
     Entries, Inside, Octets, count, enter, expect, expect_identifier, finish, read_any,
-    read_optional, read_whole,
+    read_optional, read_single,
 };
 
 /// The content type of time-stamp tokens.
@@ -78,7 +78,7 @@ impl Inside for AsItLies {
 fn read_plain(reader: &Reader, field: Span) -> Result<Span, usize>
     ensures { result ≡ plain_in reader.now.bytes.now field }
 {
-    read_whole(enter(reader, field), 0x04, &AsItLies)
+    read_single(enter(reader, field), 0x04, &AsItLies)
 }
 
 /// The content of a time-stamp token.

@@ -4,7 +4,7 @@ ghost use Rattle.fields.specs.Reads.{Reads, span_stop, any_of, allowed_of, expec
 ghost use Rattle.cms.specs.Records.{certificate_tags, revocation_tags};
 
 use der::{Reader, Span};
-use fields::{Entry, TagSet, read_allowed};
+use fields::{Entry, TagSet, read_in_set};
 
 /// Certificates of each kind that a message may hold.
 pub(crate) struct Certificates;
@@ -21,7 +21,7 @@ impl Entry for Certificates {
     ghost outcome = { allowed_of certificate_tags };
 
     fn read(reader: &mut Reader) -> Result<Span, usize> {
-        read_allowed(reader, &Certificates)
+        read_in_set(reader, &Certificates)
     }
 }
 
@@ -40,6 +40,6 @@ impl Entry for Revocations {
     ghost outcome = { allowed_of revocation_tags };
 
     fn read(reader: &mut Reader) -> Result<Span, usize> {
-        read_allowed(reader, &Revocations)
+        read_in_set(reader, &Revocations)
     }
 }

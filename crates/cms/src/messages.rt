@@ -15,7 +15,7 @@ use crate::signers::count_signers;
 use der::{Reader, Span};
 use fields::{
     Entries, Inside, enter, expect, expect_identifier, finish, read_maybe_list, read_number,
-    read_whole,
+    read_single,
 };
 
 /// The content type of signed data.
@@ -69,7 +69,7 @@ impl Inside for DataFields {
 fn read_signed_data(reader: &Reader, field: Span, settings: Settings) -> Result<Message, usize>
     ensures { result ≡ signed_data_in settings reader.now.bytes.now field }
 {
-    read_whole(enter(reader, field), 0x30, &DataFields { settings })
+    read_single(enter(reader, field), 0x30, &DataFields { settings })
 }
 
 /// The fields of a message.
@@ -97,7 +97,7 @@ impl Inside for MessageFields {
 fn read_parts(reader: Reader, settings: Settings) -> Result<Message, usize>
     ensures { result ≡ message_of settings reader.entry.bytes.now reader.entry.at reader.entry.end }
 {
-    read_whole(reader, 0x30, &MessageFields { settings })
+    read_single(reader, 0x30, &MessageFields { settings })
 }
 
 /// Where the parts lie of the message that stands from the reader's offset to its end,

@@ -131,6 +131,10 @@ abbrev pub broke : {X : Type 0} → Result X ℕ → Option ℕ
 broke (Ok x) = None
 broke (Err p) = Some p
 
+-- a test answers what is said of every tag
+abbrev pub Tells : (ℕ → Bool → Type 0) → (ℕ → Bool) → Type 0
+Tells answers tags = (tag : ℕ) (b : Bool) → answers tag b → b ≡ tags tag
+
 -- a reader reads: what is defined of its bytes from its offset to its end, and then stands where that stops, further on
 pub record Reads {X : Type 0} (outcome : List ℕ → ℕ → ℕ → Result X ℕ) (stop : X → ℕ) (was is : Reader) (r : Result X ℕ) : Type 0 where
   pub value : r ≡ outcome was.bytes.now was.at was.end

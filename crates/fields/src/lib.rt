@@ -16,8 +16,8 @@ mod run;
 mod tag_set;
 
 pub use elements::{
-    enter, expect, expect_identifier, finish, read_allowed, read_any, read_number, read_optional,
-    read_whole,
+    enter, expect, expect_identifier, finish, read_allowed, read_any, read_in_set, read_number,
+    read_optional, read_single, read_whole,
 };
 pub use entries::{Entry, count, count_some, read_list, read_maybe_list};
 pub use inside::Inside;

@@ -74,11 +74,17 @@ filled_gap was mid is n at size new l m e p q =
     (subst (λ (x : ℕ). Parted was mid n x (length new - 0)) here (subst (λ (x : ℕ). Parted was mid n at x) there p)) q
 
 -- a gap that is filled by one part and another behind it
-pub filled_both : (was gap mid is : List ℕ) (n at behind end size : ℕ) (a b : List ℕ) → at ≤ n → n ≤ length was → n + size ≤ length gap → length mid ≡ length gap →
+pub filled_both : (was gap mid is : List ℕ) (n at behind size : ℕ) (a b : List ℕ) → at ≤ n → n ≤ length was → n ≤ length gap → size ≡ length (a ++ b) →
+    Parted was gap n at size → behind ≡ at + length a → mid ≡ overlay at a gap → is ≡ overlay behind b mid → Spliced was is n at 0 (a ++ b)
+filled_both was gap mid is n at behind size a b l m k e p h p1 p2 =
+    filled_gap was gap is n at size (a ++ b) l m (sym e) p
+    (p2 ∙ ap (overlay behind b) p1 ∙ ap (λ (x : ℕ). overlay x b (overlay at a gap)) h ∙ overlay_more at a b gap (omega arith))
+
+-- the same where both were put into an area that holds them
+pub filled_by_two : (was gap mid is : List ℕ) (n at behind end size : ℕ) (a b : List ℕ) → at ≤ n → n ≤ length was → n + size ≤ length gap → length mid ≡ length gap →
     size ≡ length (a ++ b) → Parted was gap n at size → Overlaid gap mid at a behind → Overlaid mid is behind b end → Spliced was is n at 0 (a ++ b)
-filled_both was gap mid is n at behind end size a b l m k same e p put1 put2 =
+filled_by_two was gap mid is n at behind end size a b l m k same e p put1 put2 =
     let sum = length-append a b in
     let (h, p1) = put1.fits (omega (arith, sum)) in
     let (_, p2) = put2.fits (omega (arith, sum, h)) in
-    filled_gap was gap is n at size (a ++ b) l m (sym e) p
-    (p2 ∙ ap (overlay behind b) p1 ∙ ap (λ (x : ℕ). overlay x b (overlay at a gap)) h ∙ overlay_more at a b gap (omega arith))
+    filled_both was gap mid is n at behind size a b l m (omega arith) e p h p1 p2

@@ -10,7 +10,7 @@ ghost use Rattle.index.specs.Records.{algorithm_stop, has_algorithm_of, maybe_al
 use crate::algorithms::read_algorithm;
 use crate::located::{AlgorithmParts, IndexParts};
 use der::{Reader, Span};
-use fields::{Inside, Octets, enter, expect, finish, read_list, read_whole};
+use fields::{Inside, Octets, enter, expect, finish, read_list, read_single};
 
 /// Whether the next element stands for an algorithm: it is tagged 30, and its first element 06.
 fn has_algorithm(reader: &Reader) -> bool
@@ -64,7 +64,7 @@ impl Inside for IndexFields {
 fn read_parts(reader: Reader) -> Result<IndexParts, usize>
     ensures { result ≡ index_parts_of reader.entry.bytes.now reader.entry.at reader.entry.end }
 {
-    read_whole(reader, 0x30, &IndexFields)
+    read_single(reader, 0x30, &IndexFields)
 }
 
 /// Where the parts lie of the index that stands from the reader's offset to its end,

@@ -3,7 +3,7 @@ ghost use Rattle.std.specs.Prelude.{◌≡◌};
 ghost use Rattle.stamp.specs.Records.{value_in, attribute_in, unsigned_in, carried_of};
 
 use der::{Reader, Span};
-use fields::{Inside, enter, expect, expect_identifier, finish, read_any, read_whole};
+use fields::{Inside, enter, expect, expect_identifier, finish, read_any, read_single};
 
 /// The type of the attribute that carries an index.
 const INDEX: [u8; 6] = [0x04, 0x00, 0x8d, 0x45, 0x02, 0x05];
@@ -47,7 +47,7 @@ impl Inside for UnsignedField {
     ghost outcome = { λ _. unsigned_in };
 
     fn read(&self, reader: &Reader, field: Span) -> Result<Span, usize> {
-        read_whole(enter(reader, field), 0x30, &IndexAttribute)
+        read_single(enter(reader, field), 0x30, &IndexAttribute)
     }
 }
 
@@ -56,5 +56,5 @@ impl Inside for UnsignedField {
 pub(crate) fn read_carried(reader: Reader) -> Result<Span, usize>
     ensures { result ≡ carried_of reader.entry.bytes.now reader.entry.at reader.entry.end }
 {
-    read_whole(reader, 0xa1, &UnsignedField)
+    read_single(reader, 0xa1, &UnsignedField)
 }

@@ -5,7 +5,7 @@ ghost use Rattle.token.specs.Records.{imprint_in, version_of, info_in, info_of};
 
 use crate::located::{ImprintParts, InfoParts};
 use der::{Reader, Span, walk_first};
-use fields::{Inside, enter, expect, finish, read_number, read_whole};
+use fields::{Inside, enter, expect, finish, read_number, read_single};
 use index::read_algorithm;
 use message::MessageFault;
 
@@ -62,7 +62,7 @@ impl Inside for InfoFields {
 fn read_parts(reader: Reader) -> Result<InfoParts, usize>
     ensures { result ≡ info_of reader.entry.bytes.now reader.entry.at reader.entry.end }
 {
-    read_whole(reader, 0x30, &InfoFields)
+    read_single(reader, 0x30, &InfoFields)
 }
 
 // Walked and read as `message::read_formed` does: a function for both would take the reading with its clauses, and be longer.

@@ -2,4 +2,4 @@ use Rattle.std.proofs.Common.{refl, ◌∙◌}
 use Rattle.cms.proofs.messages.read_signed_data.Goals as goal
 
 pub returns : goal.returns
-returns c = let i = c.enter.ensures in c.read_whole.ensures ∙ rw (i.0, i.1, i.2) refl
+returns c = let i = c.enter.ensures in c.read_single.ensures ∙ rw (i.0, i.1, i.2) refl
